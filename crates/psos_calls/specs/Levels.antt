@@ -1,0 +1,72 @@
+-- The levels as machines: what a call changes and answers. States docs/levels.md, "Calls".
+use Rattle.std.specs.Prelude.{ℕ, ◌+◌, ◌-◌, ◌^◌, ◌<◌}
+use Rattle.psos_caps.specs.Capability.{full}
+use Rattle.psos_calls.specs.declared.level.Level.{Level}
+use Rattle.psos_calls.specs.declared.level.Level.TheVariants.{L13, L12, L11, L10, L9, L8, L7, L0}
+use Rattle.psos_calls.specs.declared.level_call.LevelCall.{LevelCall}
+use Rattle.psos_calls.specs.declared.level_call.LevelCall.TheVariants.{Hold13, Admit, CodeMake, Enter, CodeGone, Post, Draw, Hold11, Room, Enrol, KindOf, Forget, DirAt, DirMake, DirGone, RepOf, TypeAt, TypeMake, ObjMake, Impl, ObjGone, TypeGone, Locate, SlotOf, SegMake, SegGone, WinRoom, WinMake, Length, PageTake, PageDrop, WordGet, WordPut, PageGet, FourPut, Fresh}
+use Rattle.psos_calls.specs.declared.level_answer.LevelAnswer.{LevelAnswer}
+use Rattle.psos_calls.specs.declared.level_answer.LevelAnswer.TheVariants.{Done, New}
+
+-- the states of all levels. (Level 0 alone has one today: the next identifier.)
+pub record Levels : Type 0 where
+  pub next : ℕ
+
+-- the level of a call
+abbrev pub level_of : LevelCall → Level
+level_of Hold13 = L13
+level_of (Admit word) = L13
+level_of (CodeMake uid label link) = L13
+level_of (Enter cap) = L13
+level_of (CodeGone uid) = L13
+level_of (Post to word) = L12
+level_of (Draw uid) = L12
+level_of Hold11 = L11
+level_of Room = L11
+level_of (Enrol uid kind) = L11
+level_of (KindOf uid) = L11
+level_of (Forget uid) = L11
+level_of (DirAt cap right) = L10
+level_of (DirMake uid guard) = L10
+level_of (DirGone uid) = L10
+level_of (RepOf uid) = L9
+level_of (TypeAt cap) = L9
+level_of (TypeMake uid) = L9
+level_of (ObjMake uid of rep) = L9
+level_of (Impl of on) = L9
+level_of (ObjGone uid) = L9
+level_of (TypeGone uid) = L9
+level_of (Locate cap off need word) = L8
+level_of (SlotOf uid) = L8
+level_of (SegMake uid slot len guard) = L8
+level_of (SegGone uid) = L8
+level_of (WinRoom cap base len) = L8
+level_of (WinMake uid cap base len) = L8
+level_of (Length cap) = L8
+level_of PageTake = L7
+level_of (PageDrop slot) = L7
+level_of (WordGet page off) = L7
+level_of (WordPut page off word) = L7
+level_of (PageGet page) = L7
+level_of (FourPut page off words) = L7
+level_of Fresh = L0
+
+-- level 0: a new capability on the next identifier, which then rises by one
+abbrev pub act0 : ℕ → LevelCall → ℕ × LevelAnswer
+act0 next call = (next + 1, New (full next))
+
+abbrev pub act_at : Level → Levels → LevelCall → Levels × LevelAnswer
+act_at L0 l call = (record l { next = (act0 l.next call).0 }, (act0 l.next call).1)
+act_at _ l call = (l, Done)
+
+-- what a call leaves and answers. It changes its own level alone
+abbrev pub act : Levels → LevelCall → Levels × LevelAnswer
+act l call = act_at (level_of call) l call
+
+abbrev pub Can_at : Level → Levels → LevelCall → Type 0
+Can_at L0 l call = l.next < 2 ^ 64 - 1
+Can_at _ l call = ⊥
+
+-- the condition of a call
+abbrev pub Can : Levels → LevelCall → Type 0
+Can l call = Can_at (level_of call) l call

@@ -1,0 +1,55 @@
+//! What users ask, what the levels do, and what a user's process keeps: plain data with its definitions.
+#![tactic(auto)]
+
+mod answer;
+mod code;
+mod effect;
+mod entry;
+mod frame;
+mod kind;
+mod level;
+mod level_answer;
+mod level_call;
+mod level_fault;
+pub mod limits;
+mod line;
+mod names;
+mod next;
+mod path;
+mod private;
+mod refusal;
+mod reply;
+mod request;
+mod right;
+mod script;
+mod step;
+mod steps;
+mod tab;
+mod trace;
+mod user_text;
+
+pub use answer::Answer;
+pub use code::Code;
+pub use effect::Effect;
+pub use entry::Entry;
+pub use frame::Frame;
+pub use kind::Kind;
+pub use level::Level;
+pub use level_answer::LevelAnswer;
+pub use level_call::LevelCall;
+pub use level_fault::LevelFault;
+pub use line::Line;
+pub use names::Names;
+pub use next::Next;
+pub use path::Path;
+pub use private::Private;
+pub use refusal::Refusal;
+pub use reply::Reply;
+pub use request::Request;
+pub use right::Right;
+pub use script::Script;
+pub use step::Step;
+pub use steps::Steps;
+pub use tab::Tab;
+pub use trace::Trace;
+pub use user_text::UserText;

@@ -1,0 +1,59 @@
+// A process's name space.
+ghost use Rattle.std.specs.Prelude.{◌≡◌, ◌<◌, ◌≤◌, [], ◌∷◌, ◌++◌, length, slice_get, Some};
+
+use arrayvec::ArrayVec;
+use psos_caps::Cap;
+use psos_words::Word;
+use std::marker::Model;
+
+/// The directories of a name space, in order: at most four capabilities. It is seen as their list.
+#[derive(Drop)]
+pub struct Path {
+    // Each of them is a capability.
+    words: ArrayVec<Word, 4>,
+}
+
+impl Model for Path {
+    ghost use Rattle.std.specs.Prelude.{List, ◌≡◌, length};
+    ghost use Rattle.psos_caps.specs.Capability.{Capability};
+    ghost use Rattle.psos_calls.specs.Path.{capabilities};
+
+    ghost Value = { List Capability };
+
+    ghost view = { λ p. capabilities p.words.items };
+
+    ghost invariant = { λ p. length (capabilities p.words.items) ≡ length p.words.items };
+}
+
+impl Path {
+    /// No directory.
+    pub fn new() -> Path
+        ensures { result ≡ [] }
+    {
+        Path {
+            words: ArrayVec::new(),
+        }
+    }
+
+    /// How many there are.
+    pub fn len(&self) -> usize
+        ensures count { result ≡ length self.now }
+        ensures few { result ≤ 4 }
+    {
+        self.words.len()
+    }
+
+    /// One more at the end. There is room for four.
+    pub fn push(&mut self, cap: Cap)
+        requires { length self.old < 4 }
+        ensures { self.new ≡ self.old ++ cap ∷ [] }
+    {
+        self.words.push(Word::Cap(cap));
+    }
+}
+
+impl Default for Path {
+    fn default() -> Path {
+        Path::new()
+    }
+}
