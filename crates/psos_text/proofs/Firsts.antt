@@ -1,5 +1,5 @@
 -- Where the first element stands that passes a test.
-use Rattle.std.proofs.Common.{◌≡◌, ℕ, ◌+◌, ◌<◌, ◌≤◌, Bool, true, false, eqb, not, suc, List, ◌∷◌, length, get_or, take, drop, sym, ap, arith}
+use Rattle.std.proofs.Common.{◌≡◌, ℕ, ◌+◌, ◌<◌, ◌≤◌, Bool, true, false, cond, eqb, not, suc, List, [], ◌∷◌, length, get_or, take, drop, sym, ap, arith}
 use Rattle.std.specs.List.{position_or_len}
 use Rattle.std.proofs.lemmas.List.Sums.{position_or_len_is}
 
@@ -33,3 +33,12 @@ take_cons n x xs = ap (λ (m : ℕ). take m (x ∷ xs)) (let e : 1 + n ≡ suc n
 -- one more is dropped
 pub drop_cons : {X : Type 0} (n : ℕ) (x : X) (xs : List X) → drop (1 + n) (x ∷ xs) ≡ drop n xs
 drop_cons n x xs = ap (λ (m : ℕ). drop m (x ∷ xs)) (let e : 1 + n ≡ suc n = omega arith in e)
+
+cond_le : (t : Bool) (n m : ℕ) → n ≤ m → cond (not t) (1 + n) 0 ≤ m + 1
+cond_le true n m h = omega arith
+cond_le false n m h = omega (arith, h)
+
+-- it stands within the text, or at its end
+pub position_or_len-le : (p : ℕ → Bool) (text : List ℕ) → position_or_len p text ≤ length text
+position_or_len-le p [] = omega arith
+position_or_len-le p (b ∷ bs) = omega (arith, cond_le (p b) (position_or_len p bs) (length bs) (position_or_len-le p bs))

@@ -4,10 +4,16 @@
 mod fault;
 mod finds;
 mod hex;
+mod laws;
 mod name;
 mod number;
+#[cfg(test)]
+mod tests;
+mod tokens;
 
 pub use fault::TextFault;
 pub use hex::{put_hex4, read_hex4};
+pub use laws::{hex_is_read_back, lines_are_cut, names_are_read_back, numbers_are_read_back};
 pub use name::Name;
-pub use number::put_number;
+pub use number::{put_number, read_number};
+pub use tokens::Tokens;

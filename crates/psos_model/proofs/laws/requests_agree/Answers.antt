@@ -1,0 +1,5 @@
+use Rattle.psos_model.proofs.Agreement.{step_stands}
+use Rattle.psos_model.proofs.laws.requests_agree.Goals as goal
+
+pub returns : goal.returns
+returns c = λ s y f u h. step_stands s y f u h

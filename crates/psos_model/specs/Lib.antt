@@ -1,0 +1,9 @@
+pub mod Flat
+pub mod Boot
+pub mod Answer
+pub mod Run
+pub mod Replay
+pub mod StandsFor
+pub mod Transcript
+pub mod Output
+pub mod Spelling

@@ -1,0 +1,5 @@
+pub mod Cuts
+pub mod Lines
+pub mod Fields
+pub mod Requests
+pub mod Scripts

@@ -1,0 +1,9 @@
+use Rattle.std.proofs.Common.{rules, rules}
+use Rattle.psos_text.proofs.Firsts.{first_is, none_is, is_other}
+use Rattle.psos_text.proofs.finds.first_other.Goals as goal
+
+pub returns-then-b-sep-clause-at : goal.returns-then-b-sep-clause-at
+returns-then-b-sep-clause-at c = first_is (is_other c.args.sep) c.args.text.now c.bytes.i c.bytes-test.true (search rules) c.bytes.invariant
+
+pub returns-clause-at : goal.returns-clause-at
+returns-clause-at c = none_is (is_other c.args.sep) c.args.text.now c.bytes.i c.bytes-test.false c.bytes.invariant

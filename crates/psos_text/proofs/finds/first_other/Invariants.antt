@@ -1,0 +1,5 @@
+use Rattle.psos_text.proofs.Firsts.{NoneBefore, is_other}
+use Rattle.psos_text.proofs.finds.first_other.Given as goal
+
+abbrev pub invariant-bytes : goal.invariant-bytes
+invariant-bytes l = NoneBefore (is_other l.sep) l.text l.i

@@ -1,0 +1,72 @@
+-- How a command ends. States docs/program.md, "Statuses".
+use Rattle.std.specs.Prelude.{◌≡◌, ℕ, ◌≤◌, List, [], ◌⊎◌, Option, None, IfSome, IsSomeAnd, codes}
+use Rattle.std.specs.Io.KnownBytes.{Appends, Keeps, IsAtEnd}
+use Rattle.psos_io.specs.Bytes.{AppendsFront}
+use Rattle.psos_io.specs.Causes.{Rose}
+use Rattle.psos_calls.specs.declared.entry.Entry.{Entry}
+use Rattle.psos_calls.specs.Script.{Script}
+use Rattle.psos_model.specs.Spelling.{IsScript}
+use Rattle.psos_model.specs.Replay.{System, order_of}
+use Rattle.psos_model.specs.Output.{output}
+use Rattle.psos_core.specs.Serving.{IsWholeRun}
+
+abbrev pub not_built_text : List ℕ
+not_built_text = codes "line 0: not built\n"
+
+abbrev pub read_fault_text : List ℕ
+read_fault_text = codes "read fault\n"
+
+abbrev pub usage_text : List ℕ
+usage_text = codes "usage: psos COMMAND [OPTION N]...\n"
+
+-- the input was read to its end, and where its bytes are known they spell the script
+pub record WasRead (before now : Option (List ℕ)) (s : Script) : Type 0 where
+  pub spelled : IfSome before (λ bytes. IsScript bytes s)
+  pub ended : IsAtEnd now
+
+-- the input, where its bytes are known, spells no script
+abbrev pub SpellsNone : Option (List ℕ) → Type 0
+SpellsNone input = IfSome input (λ bytes. (s : Script) → IsScript bytes s → ⊥)
+
+-- the whole text was written, or a front of it and a write failed
+pub record Wrote (before now : Option (List ℕ)) (faults_before faults_now : ℕ) (text : List ℕ) : Type 0 where
+  pub front : AppendsFront before now text
+  pub whole : Appends before now text ⊎ Rose faults_before faults_now
+
+-- status 0: the script was read, a whole run was made, and its output was written in whole
+pub record IsPrinted (input_before input_now before now : Option (List ℕ)) (entries : List Entry) (left : Option System) (s : Script) : Type 0 where
+  pub read : WasRead input_before input_now s
+  pub run : IsSomeAnd left (IsWholeRun s entries)
+  pub text : Appends before now (output s (order_of entries))
+
+-- status 4: the script was read, a whole run was made, and a front of its output was written
+pub record IsCut (input_before input_now before now : Option (List ℕ)) (entries : List Entry) (left : Option System) (s : Script) : Type 0 where
+  pub read : WasRead input_before input_now s
+  pub run : IsSomeAnd left (IsWholeRun s entries)
+  pub text : AppendsFront before now (output s (order_of entries))
+
+-- no run was made
+pub record IsNoRun (entries : List Entry) (left : Option System) : Type 0 where
+  pub entries-none : entries ≡ []
+  pub left-none : left ≡ None
+
+-- how a run of a script ends: printed, cut, or out of memory
+pub record RunEnds (before now : Option (List ℕ)) (faults_before faults_now : ℕ) (s : Script) (status : ℕ) (entries : List Entry) (left : Option System) : Type 0 where
+  pub which : (status ≡ 0) ⊎ (status ≡ 4) ⊎ (status ≡ 6)
+  pub run : (status ≡ 0) ⊎ (status ≡ 4) → IsSomeAnd left (IsWholeRun s entries)
+  pub done : status ≡ 0 → Appends before now (output s (order_of entries))
+  pub cut : status ≡ 4 → AppendsFront before now (output s (order_of entries))
+  pub cause : status ≡ 4 → Rose faults_before faults_now
+  pub none : status ≡ 6 → IsNoRun entries left
+  pub memory : status ≡ 6 → Keeps before now
+  pub later : faults_before ≤ faults_now
+
+abbrev pub IsSerialStatus : ℕ → Type 0
+IsSerialStatus status = (status ≡ 0) ⊎ (status ≡ 2) ⊎ (status ≡ 3) ⊎ (status ≡ 4) ⊎ (status ≡ 6)
+
+abbrev pub IsStatus : ℕ → Type 0
+IsStatus status = (status ≡ 1) ⊎ IsSerialStatus status
+
+-- the statuses without a run
+abbrev pub HasNoRun : ℕ → Type 0
+HasNoRun status = (status ≡ 1) ⊎ (status ≡ 2) ⊎ (status ≡ 3) ⊎ (status ≡ 6)

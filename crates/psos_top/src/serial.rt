@@ -1,0 +1,102 @@
+// The command `serial`.
+ghost use Rattle.std.specs.Prelude.{◌≡◌, ◌≤◌, None, IfSome, option_map};
+ghost use Rattle.std.specs.Io.KnownBytes.{Keeps};
+ghost use Rattle.psos_io.specs.Causes.{Rose};
+ghost use Rattle.psos_calls.specs.Script.{Script as Spelled};
+ghost use Rattle.psos_model.specs.Spelling.{IsBuilt};
+ghost use Rattle.psos_core.specs.System.{system_of};
+ghost use Rattle.psos_top.specs.Outcome.{not_built_text, read_fault_text, SpellsNone, IsSerialStatus, HasNoRun, Wrote, IsPrinted, IsCut, IsNoRun, RunEnds};
+
+use crate::ending::{finish, no_run, stop};
+use crate::outcome::Outcome;
+use psos_calls::Script;
+use psos_core::{Levels, run_serial};
+use psos_io::{InputFault, Sink, Source, Store, read_all};
+use psos_script::{ReadFault, read_script};
+use std::alloc::Global;
+
+// Boots, runs and prints a script.
+fn run_script<K: Sink, B: Store>(
+    alloc: Global,
+    script: &Script,
+    frames: u16,
+    output: &mut K,
+    store: B,
+) -> Outcome<B>
+    requires built { IsBuilt script.now }
+    requires least { 8 ≤ frames }
+    requires most { frames ≤ 256 }
+    ensures ends { RunEnds (K.took output.old) (K.took output.new) (K.faults output.old) (K.faults output.new)
+        script.now result.status result.entries (option_map system_of result.levels) }
+    ensures kept { IfSome result.levels (λ l. l.store ≡ store) }
+    ensures store { result.store ≡ None }
+    ensures store_faults { result.store_faults ≡ B.faults store }
+{
+    let store_faults = store.faults();
+    let Ok(mut levels) = Levels::boot(alloc, script, frames, store) else {
+        return no_run(alloc, 6, store_faults);
+    };
+    match run_serial(alloc, script, &mut levels) {
+        Ok(entries) => finish(alloc, script, entries, levels, output),
+        Err(_) => no_run(alloc, 6, store_faults),
+    }
+}
+
+/// The command `serial`: reads a script, runs it, and prints the transcript (docs/program.md, "Commands").
+///
+/// The number of frames, 8 to 256, has no effect today. The call always returns.
+pub fn serial_call<I: Source, K: Sink, B: Store>(
+    alloc: Global,
+    frames: u16,
+    input: &mut I,
+    output: &mut K,
+    store: B,
+) -> Outcome<B>
+    requires least { 8 ≤ frames }
+    requires most { frames ≤ 256 }
+
+    // There is no other status.
+    ensures which { IsSerialStatus result.status }
+
+    // At 0, what was written is the output of the flat objects for the order that the entries record.
+    ensures printed { result.status ≡ 0 → (s : Spelled) × IsPrinted (I.left input.old) (I.left input.new)
+        (K.took output.old) (K.took output.new) result.entries (option_map system_of result.levels) s }
+
+    // At 2, the bytes are no script.
+    ensures not_built { result.status ≡ 2 → SpellsNone (I.left input.old) }
+    ensures not_built_text { result.status ≡ 2 →
+        Wrote (K.took output.old) (K.took output.new) (K.faults output.old) (K.faults output.new) not_built_text }
+
+    // At 3, the source failed.
+    ensures read_fault { result.status ≡ 3 → Rose (I.faults input.old) (I.faults input.new) }
+    ensures read_fault_text { result.status ≡ 3 →
+        Wrote (K.took output.old) (K.took output.new) (K.faults output.old) (K.faults output.new) read_fault_text }
+
+    // At 4, the sink failed.
+    ensures write_fault { result.status ≡ 4 → Rose (K.faults output.old) (K.faults output.new) }
+    ensures cut { result.status ≡ 4 → (s : Spelled) × IsCut (I.left input.old) (I.left input.new)
+        (K.took output.old) (K.took output.new) result.entries (option_map system_of result.levels) s }
+
+    // At 6, nothing was written.
+    ensures memory { result.status ≡ 6 → Keeps (K.took output.old) (K.took output.new) }
+
+    // At 2, 3 and 6 no run was made.
+    ensures none { HasNoRun result.status → IsNoRun result.entries (option_map system_of result.levels) }
+
+    ensures source_faults { I.faults input.old ≤ I.faults input.new }
+    ensures sink_faults { K.faults output.old ≤ K.faults output.new }
+    ensures kept { IfSome result.levels (λ l. l.store ≡ store) }
+    ensures store { result.store ≡ None }
+    ensures store_faults { result.store_faults ≡ B.faults store }
+{
+    let bytes = match read_all(alloc, input) {
+        Ok(bytes) => bytes,
+        Err(InputFault::Failed) => return stop(alloc, output, 3, b"read fault\n", store),
+        Err(InputFault::Memory) => return no_run(alloc, 6, store.faults()),
+    };
+    match read_script(alloc, &bytes) {
+        Ok(script) => run_script(alloc, &script, frames, output, store),
+        Err(ReadFault::NotBuilt) => stop(alloc, output, 2, b"line 0: not built\n", store),
+        Err(ReadFault::Memory) => no_run(alloc, 6, store.faults()),
+    }
+}
