@@ -1,0 +1,8 @@
+use Rattle.std.proofs.Common.{sym, ap, ◌∙◌}
+use Rattle.std.specs.Cmp.{nat_cmp_total}
+use Rattle.psos_table.specs.Table.{at}
+use Rattle.psos_table.proofs.Rows.{get_rows}
+use Rattle.psos_table.proofs.table.Table.get.Goals as goal
+
+pub returns : goal.returns
+returns g c = c.get.ensures.value ∙ (sym (get_rows nat_cmp_total c.self.inside.rows.entries c.args.key) ∙ ap (λ m. at m c.args.key) c.self.view_is)
