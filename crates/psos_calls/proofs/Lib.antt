@@ -1,1 +1,3 @@
 pub mod Capabilities
+pub mod Phases
+pub mod Users

@@ -6,11 +6,25 @@ use Rattle.psos_calls.specs.declared.level.Level.TheVariants.{L13, L12, L11, L10
 use Rattle.psos_calls.specs.declared.level_call.LevelCall.{LevelCall}
 use Rattle.psos_calls.specs.declared.level_call.LevelCall.TheVariants.{Hold13, Admit, CodeMake, Enter, CodeGone, Post, Draw, Hold11, Room, Enrol, KindOf, Forget, DirAt, DirMake, DirGone, RepOf, TypeAt, TypeMake, ObjMake, Impl, ObjGone, TypeGone, Locate, SlotOf, SegMake, SegGone, WinRoom, WinMake, Length, PageTake, PageDrop, WordGet, WordPut, PageGet, FourPut, Fresh}
 use Rattle.psos_calls.specs.declared.level_answer.LevelAnswer.{LevelAnswer}
-use Rattle.psos_calls.specs.declared.level_answer.LevelAnswer.TheVariants.{Done, New}
+use Rattle.psos_calls.specs.declared.level_answer.LevelAnswer.TheVariants.{New}
+use Rattle.psos_calls.specs.Level7.{Pages, act7, Can7}
+use Rattle.psos_calls.specs.Level8.{SegState, act8, Can8}
+use Rattle.psos_calls.specs.Level9.{TypeState, act9, Can9}
+use Rattle.psos_calls.specs.Level10.{DirState, act10, Can10}
+use Rattle.psos_calls.specs.Level11.{LifeState, act11, Can11}
+use Rattle.psos_calls.specs.Level12.{BoxState, act12, Can12}
+use Rattle.psos_calls.specs.Level13.{CodeState, act13, Can13}
 
--- the states of all levels. (Level 0 alone has one today: the next identifier.)
+-- the states of all levels; level 0's is the next identifier
 pub record Levels : Type 0 where
   pub next : ℕ
+  pub pages : Pages
+  pub segs : SegState
+  pub types : TypeState
+  pub dirs : DirState
+  pub life : LifeState
+  pub boxes : BoxState
+  pub codes : CodeState
 
 -- the level of a call
 abbrev pub level_of : LevelCall → Level
@@ -56,16 +70,28 @@ abbrev pub act0 : ℕ → LevelCall → ℕ × LevelAnswer
 act0 next call = (next + 1, New (full next))
 
 abbrev pub act_at : Level → Levels → LevelCall → Levels × LevelAnswer
+act_at L13 l call = (record l { codes = (act13 l.codes call).0 }, (act13 l.codes call).1)
+act_at L12 l call = (record l { boxes = (act12 l.boxes call).0 }, (act12 l.boxes call).1)
+act_at L11 l call = (record l { life = (act11 l.life call).0 }, (act11 l.life call).1)
+act_at L10 l call = (record l { dirs = (act10 l.dirs call).0 }, (act10 l.dirs call).1)
+act_at L9 l call = (record l { types = (act9 l.types call).0 }, (act9 l.types call).1)
+act_at L8 l call = (record l { segs = (act8 l.segs call).0 }, (act8 l.segs call).1)
+act_at L7 l call = (record l { pages = (act7 l.pages call).0 }, (act7 l.pages call).1)
 act_at L0 l call = (record l { next = (act0 l.next call).0 }, (act0 l.next call).1)
-act_at _ l call = (l, Done)
 
 -- what a call leaves and answers. It changes its own level alone
 abbrev pub act : Levels → LevelCall → Levels × LevelAnswer
 act l call = act_at (level_of call) l call
 
 abbrev pub Can_at : Level → Levels → LevelCall → Type 0
+Can_at L13 l call = Can13 l.codes call
+Can_at L12 l call = Can12 l.boxes call
+Can_at L11 l call = Can11 l.life call
+Can_at L10 l call = Can10 l.dirs call
+Can_at L9 l call = Can9 l.types call
+Can_at L8 l call = Can8 l.segs call
+Can_at L7 l call = Can7 l.pages call
 Can_at L0 l call = l.next < 2 ^ 64 - 1
-Can_at _ l call = ⊥
 
 -- the condition of a call
 abbrev pub Can : Levels → LevelCall → Type 0

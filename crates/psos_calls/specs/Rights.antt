@@ -1,5 +1,7 @@
 -- Which bit stands for a right. States docs/system.md, "Rights".
-use Rattle.std.specs.Prelude.{ℕ}
+use Rattle.std.specs.Prelude.{ℕ, Bool}
+use Rattle.psos_caps.specs.Capability.{Capability}
+use Rattle.psos_words.specs.Guard.{has_bit}
 use Rattle.psos_calls.specs.declared.right.Right.{Right}
 use Rattle.psos_calls.specs.declared.right.Right.TheVariants.{Read, Write, Window, Lookup, Bind, Unbind, List, Create, Delete, Make, Impl, Enter, Send}
 
@@ -18,3 +20,7 @@ bit_of Make = 3
 bit_of Impl = 4
 bit_of Enter = 3
 bit_of Send = 3
+
+-- the capability has the right
+abbrev pub has : Capability → Right → Bool
+has cap right = has_bit cap.rights (bit_of right)

@@ -1,5 +1,5 @@
 -- A user's own part, and what the close of a request changes in it. States docs/system.md, "A user's own part".
-use Rattle.std.specs.Prelude.{◌+◌, ◌<◌, ℕ, List, [], ◌∷◌, ◌++◌, length, slice_get, slice_set, if◌then◌else◌, nat_le, Option}
+use Rattle.std.specs.Prelude.{◌+◌, ◌<◌, ◌^◌, ℕ, Bool, false, List, [], ◌∷◌, ◌++◌, length, slice_get, slice_set, if◌then◌else◌, nat_le, Option, Some, None}
 use Rattle.psos_caps.specs.Capability.{Capability}
 use Rattle.psos_words.specs.declared.word.Word.{Word}
 use Rattle.psos_words.specs.Words.{zeros, word_at}
@@ -46,6 +46,11 @@ regs_in (q ∷ outer) own = q.regs
 abbrev pub here : User → List Word
 here x = regs_in x.frames x.regs
 
+-- the code block of the innermost open body, and how many of its lines are answered
+abbrev pub label_and_line : List Frame → Option (ℕ × ℕ)
+label_and_line [] = None
+label_and_line (q ∷ outer) = Some (q.label, q.line)
+
 -- ---- what its close changes: it is counted, then the effect is made, then bodies end
 
 -- a line of the innermost open body is counted, or a script request
@@ -70,6 +75,11 @@ settled x (Push cap) = record x { path = x.path ++ cap ∷ [] }
 settled x (Enter label link) =
     record x { charge = x.charge + 16; frames = record { regs = entered_regs (here x) link; label = label; line = 0 } ∷ x.frames }
 
+-- the innermost open body has no line left
+abbrev pub is_over : Script → List Frame → Bool
+is_over s [] = false
+is_over s (q ∷ outer) = nat_le (length (body_of s q.label)) q.line
+
 -- a body whose last line is answered goes on no more; the word goes to r4 of the next one that does, or of the user
 abbrev pub outward : Script → User → List Frame → Word → User
 outward s x [] w = record x { regs = slice_set x.regs 4 w; frames = [] }
@@ -86,6 +96,24 @@ ended s x (q ∷ outer) =
 -- a user's part after a request that closes with this effect
 abbrev pub after : Script → User → Effect → User
 after s x e = let y = settled (counted x x.frames) e in ended s y y.frames
+
+-- ---- where a request can close
+
+-- the count that rises has room in its type
+abbrev pub CanCount : User → List Frame → Type 0
+CanCount x [] = x.answered + 1 < 2 ^ 16
+CanCount x (q ∷ outer) = (x.within + 1 < 2 ^ 16) × (q.line + 1 < 2 ^ 8)
+
+-- a register that is written is one of the sixteen, and there is room for a directory, a charge and a body
+abbrev pub CanMake : User → Effect → Type 0
+CanMake x Nothing = Unit {0}
+CanMake x (Put i word) = i < 16
+CanMake x (Push cap) = length x.path < 4
+CanMake x (Enter label link) = (x.charge + 16 < 2 ^ 16) × (length x.frames < 4)
+
+pub record CanSettle (x : User) (e : Effect) : Type 0 where
+  pub count : CanCount x x.frames
+  pub make : CanMake x e
 
 -- a register that is written is one of the sixteen. (No other effect is built today.)
 abbrev pub EffectFits : Effect → Type 0

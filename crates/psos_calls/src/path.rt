@@ -43,6 +43,17 @@ impl Path {
         self.words.len()
     }
 
+    /// Directory i, counted from 0.
+    pub fn get(&self, i: usize) -> Cap
+        requires { i < length self.now }
+        ensures { slice_get self.now i ≡ Some result }
+    {
+        match self.words[i] {
+            Word::Cap(cap) => cap,
+            Word::Data(_) => unreachable!(),
+        }
+    }
+
     /// One more at the end. There is room for four.
     pub fn push(&mut self, cap: Cap)
         requires { length self.old < 4 }

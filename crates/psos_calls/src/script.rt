@@ -1,7 +1,8 @@
 // A script.
-ghost use Rattle.std.specs.Prelude.{◌≡◌};
+ghost use Rattle.std.specs.Prelude.{◌≡◌, slice_get};
+ghost use Rattle.psos_calls.specs.Script.{body_of, user_script, requests_of};
 
-use crate::{Code, UserText};
+use crate::{Code, Request, UserText};
 use std::marker::Model;
 
 /// A script: its users in order, and its code blocks, numbered from 0. It is seen as those two lists.
@@ -39,5 +40,25 @@ impl Script {
         ensures { result.now ≡ self.now.codes }
     {
         &self.codes
+    }
+
+    /// The lines of code block `label`; none where there is no such block.
+    pub fn body(&self, label: u8) -> &[Request]
+        ensures { result.now ≡ body_of self.now label }
+    {
+        match self.codes.get(label as usize) {
+            Some(code) => code.body(),
+            None => &[],
+        }
+    }
+
+    /// Request k of a user, counted from 0 over its phases.
+    pub fn request(&self, user: u8, k: usize) -> Option<Request>
+        ensures { result ≡ slice_get (requests_of (user_script self.now user)) k }
+    {
+        match self.users.get(user as usize) {
+            Some(text) => text.request(k),
+            None => None,
+        }
     }
 }

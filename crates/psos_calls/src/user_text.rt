@@ -1,5 +1,6 @@
 // What one user asks.
-ghost use Rattle.std.specs.Prelude.{◌≡◌, map};
+ghost use Rattle.std.specs.Prelude.{◌≡◌, map, slice_get};
+ghost use Rattle.psos_calls.specs.Script.{requests_of};
 ghost use Rattle.psos_text.specs.Name.{name_text};
 
 use crate::Request;
@@ -43,5 +44,19 @@ impl UserText {
         ensures { map (λ p. p.items) result.now ≡ self.now.phases }
     {
         &self.phases
+    }
+
+    /// Request k, counted from 0 over all phases.
+    pub fn request(&self, k: usize) -> Option<Request>
+        ensures { result ≡ slice_get (requests_of self.now) k }
+    {
+        let mut left = k;
+        'phases: for phase in &self.phases {
+            if left < phase.len() {
+                return Some(phase[left]);
+            }
+            left -= phase.len();
+        }
+        None
     }
 }

@@ -1,54 +1,47 @@
 -- What each request answers and changes. States docs/requests.md, "Answers".
-use Rattle.std.specs.Prelude.{ℕ, ◌+◌, List, [], ◌∷◌, slice_get, slice_set, Option, Some, None}
-use Rattle.psos_caps.specs.Capability.{Capability, full, restricted}
-use Rattle.psos_words.specs.declared.word.Word.{Word}
-use Rattle.psos_words.specs.declared.word.Word.TheVariants.{Cap}
-use Rattle.psos_words.specs.Words.{word_at}
+use Rattle.std.specs.Prelude.{ℕ, slice_get, slice_set, Option, Some, None}
 use Rattle.psos_calls.specs.declared.request.Request.{Request}
-use Rattle.psos_calls.specs.declared.request.Request.TheVariants.{Mint, Restrict}
+use Rattle.psos_calls.specs.declared.request.Request.TheVariants.{Mint, Restrict, Set, Move, Add, Read, Write, Window, Length, Lookup, Bind, Unbind, List, Impl, MkSeg, MkDir, MkType, MkObj, MkCode, Delete, Send, Recv, Call, Path, Find}
 use Rattle.psos_calls.specs.declared.reply.Reply.{Reply}
-use Rattle.psos_calls.specs.declared.reply.Reply.TheVariants.{Fine, No}
-use Rattle.psos_calls.specs.declared.refusal.Refusal.{Refusal}
-use Rattle.psos_calls.specs.declared.refusal.Refusal.TheVariants.{NotCap}
-use Rattle.psos_calls.specs.declared.effect.Effect.{Effect}
-use Rattle.psos_calls.specs.declared.effect.Effect.TheVariants.{Nothing, Put}
+use Rattle.psos_calls.specs.declared.reply.Reply.TheVariants.{Fine}
 use Rattle.psos_calls.specs.Script.{Script}
-use Rattle.psos_calls.specs.User.{User, here, next_request, place_of, after}
-use Rattle.psos_calls.specs.Plan.{word_reply}
-use Rattle.psos_calls.specs.Tests.{if_there, if_cap}
+use Rattle.psos_calls.specs.User.{User, next_request, place_of, after}
+use Rattle.psos_calls.specs.Tests.{if_there}
 use Rattle.psos_model.specs.Flat.{Flat}
+use Rattle.psos_model.specs.Changes.{changed_all}
+use Rattle.psos_model.specs.Outcome.{Outcome}
+use Rattle.psos_model.specs.AnswerSeg.{answer_mint, answer_restrict, answer_set, answer_move, answer_add, answer_read, answer_write, answer_window, answer_length}
+use Rattle.psos_model.specs.AnswerDir.{answer_lookup, answer_bind, answer_unbind, answer_list, answer_path, answer_find}
+use Rattle.psos_model.specs.AnswerLife.{answer_impl, answer_mkseg, answer_mkdir, answer_mktype, answer_mkobj, answer_mkcode, answer_delete}
+use Rattle.psos_model.specs.AnswerProc.{answer_send, answer_recv, answer_call}
 
--- a change of what users share
-pub data Change : Type 0 where
-  Fresh : Change
-
--- an identifier is used up
-abbrev pub changed : Flat → Change → Flat
-changed f Fresh = record f { next = f.next + 1 }
-
-abbrev pub changed_all : Flat → List Change → Flat
-changed_all f [] = f
-changed_all f (c ∷ rest) = changed_all (changed f c) rest
-
--- what a request does: changes of what users share, one effect on its user's own part, and the reply
-pub record Outcome : Type 0 where
-  pub changes : List Change
-  pub effect : Effect
-  pub reply : Reply
-
--- a refusal does nothing
-abbrev pub refuse : Refusal → Outcome
-refuse r = record { changes = []; effect = Nothing; reply = No r }
-
--- a word goes into a register, and is the reply
-abbrev pub gives : List Change → ℕ → Word → Outcome
-gives changes rd w = record { changes = changes; effect = Put rd w; reply = word_reply w }
-
--- the outcome of a request of user x. (Two requests are built today; no script has another.)
+-- the outcome of a request of user x
 abbrev pub outcome : Flat → User → Request → Outcome
-outcome f x (Mint rd) = gives (Fresh ∷ []) rd (Cap (full f.next))
-outcome f x (Restrict rd rs keep) = if_cap (word_at (here x) rs) (refuse NotCap) (λ cap. gives [] rd (Cap (restricted cap keep.0)))
-outcome f x _ = record { changes = []; effect = Nothing; reply = Fine }
+outcome f x (Mint rd) = answer_mint f rd
+outcome f x (Restrict rd rs keep) = answer_restrict x rd rs keep.0
+outcome f x (Set rd n) = answer_set rd n
+outcome f x (Move rd rs) = answer_move x rd rs
+outcome f x (Add rd ra rb) = answer_add x rd ra rb
+outcome f x (Read rd rs n) = answer_read f x rd rs n
+outcome f x (Write rs n rv) = answer_write f x rs n rv
+outcome f x (Window rd rs base len) = answer_window f x rd rs base len
+outcome f x (Length rd rs) = answer_length f x rd rs
+outcome f x (Lookup rd rs name) = answer_lookup f x rd rs name
+outcome f x (Bind rs name rv) = answer_bind f x rs name rv
+outcome f x (Unbind rs name) = answer_unbind f x rs name
+outcome f x (List rs) = answer_list f x rs
+outcome f x (Impl rd rt ro) = answer_impl f x rd rt ro
+outcome f x (MkSeg rd rs name len guard) = answer_mkseg f x rd rs name len guard
+outcome f x (MkDir rd rs name guard) = answer_mkdir f x rd rs name guard
+outcome f x (MkType rd rs name) = answer_mktype f x rd rs name
+outcome f x (MkObj rd rt rs name len) = answer_mkobj f x rd rt rs name len
+outcome f x (MkCode rd rs name label rl) = answer_mkcode f x rd rs name label rl
+outcome f x (Delete rs name) = answer_delete f x rs name
+outcome f x (Send rp rv) = answer_send f x rp rv
+outcome f x (Recv rd) = answer_recv f x rd
+outcome f x (Call rp) = answer_call f x rp
+outcome f x (Path rs) = answer_path f x rs
+outcome f x (Find rd name) = answer_find f x rd name
 
 -- a request that was answered: its user, its place n or n/m, and the reply
 pub record Answered : Type 0 where

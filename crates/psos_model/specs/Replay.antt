@@ -6,9 +6,11 @@ use Rattle.psos_calls.specs.declared.entry.Entry.{Entry}
 use Rattle.psos_calls.specs.Script.{Script}
 use Rattle.psos_calls.specs.User.{User, next_request, place_of, after}
 use Rattle.psos_calls.specs.Levels.{Levels}
-use Rattle.psos_calls.specs.Plan.{plan_of, run_plan}
+use Rattle.psos_calls.specs.Plan.{run_plan}
+use Rattle.psos_calls.specs.PlanOf.{plan_of}
 use Rattle.psos_calls.specs.Tests.{if_there}
-use Rattle.psos_model.specs.Boot.{boot_next, boot_users}
+use Rattle.psos_model.specs.Boot.{boot_users}
+use Rattle.psos_model.specs.BootLevels.{boot_levels}
 use Rattle.psos_model.specs.Answer.{Answered}
 use Rattle.psos_model.specs.Run.{answers}
 
@@ -18,7 +20,7 @@ pub record System : Type 0 where
   pub users : List User
 
 abbrev pub boot_system : Script → System
-boot_system s = record { levels = record { next = boot_next s }; users = boot_users 0 s.users }
+boot_system s = record { levels = boot_levels s; users = boot_users 0 s.users }
 
 -- a request by its plan: the system after it, and its entry
 abbrev pub replay_to : Script → System → ℕ → User → Option Request → System × Entry

@@ -1,54 +1,94 @@
 -- The bytes that spell a script. States docs/program.md, "Scripts".
-use Rattle.std.specs.Prelude.{◌≡◌, ℕ, ◌+◌, ◌≤◌, if◌then◌else◌, nat_lt, List, [], ◌∷◌, ◌++◌, length, codes}
-use Rattle.std.specs.List.{flat_map, AllByRecursion}
-use Rattle.psos_text.specs.Hex.{hex4}
+use Rattle.std.specs.Prelude.{◌≡◌, ℕ, ◌+◌, ◌≤◌, Bool, true, ◌&&◌, ◌==◌, not, nat_le, List, [], ◌∷◌, ◌++◌, length, map, filter, get_or, codes, IsTrue}
+use Rattle.std.specs.List.{flat_map, list_all, AllByRecursion}
+use Rattle.psos_text.specs.Lines.{lines_of, words_of}
 use Rattle.psos_calls.specs.declared.request.Request.{Request}
-use Rattle.psos_calls.specs.declared.request.Request.TheVariants.{Mint, Restrict}
-use Rattle.psos_calls.specs.Script.{UserScript, Script, requests_of, IsWellFormed}
+use Rattle.psos_calls.specs.declared.request.Request.TheVariants.{Mint, Restrict, Set, Move, Add}
+use Rattle.psos_calls.specs.Request.{InRange}
+use Rattle.psos_calls.specs.Script.{UserScript, CodeBlock, Script, IsWellFormed}
+use Rattle.psos_model.specs.Operands.{Text}
+use Rattle.psos_model.specs.RequestWords.{request_words}
 
--- r0 to r15, without leading zeros
-abbrev pub register_text : ℕ → List ℕ
-register_text r = if nat_lt r 10 then 114 ∷ (48 + r) ∷ [] else 114 ∷ 49 ∷ (38 + r) ∷ []
+-- ---- the lines of a script, each as its words
 
--- a request's line, without its line feed. (Two requests are built today.)
-abbrev pub request_text : Request → List ℕ
-request_text (Mint rd) = codes "mint " ++ register_text rd
-request_text (Restrict rd rs keep) = codes "restrict " ++ (register_text rd ++ 32 ∷ (register_text rs ++ 32 ∷ hex4 keep.0))
-request_text _ = []
+-- the labels of the code blocks, in order
+abbrev pub labels_of : Script → List Text
+labels_of s = map (λ (c : CodeBlock). c.label) s.codes
 
--- a line with its line feed
-abbrev pub line : List ℕ → List ℕ
-line text = text ++ 10 ∷ []
+abbrev pub requests_lines : List Text → List Request → List (List Text)
+requests_lines labels requests = map (request_words labels) requests
 
-abbrev pub request_line : Request → List ℕ
-request_line request = line (request_text request)
+-- a code block: `code LABEL`, its requests, and `end`
+abbrev pub code_lines : List Text → CodeBlock → List (List Text)
+code_lines labels c = (codes "code" ∷ c.label ∷ []) ∷ (requests_lines labels c.body ++ (codes "end" ∷ []) ∷ [])
 
-abbrev pub user_text : UserScript → List ℕ
-user_text user = line (codes "user " ++ user.name) ++ flat_map request_line (requests_of user)
+-- a phase after the first: `phase`, and its requests
+abbrev pub later_lines : List Text → List Request → List (List Text)
+later_lines labels requests = (codes "phase" ∷ []) ∷ requests_lines labels requests
 
--- the one spelling of a script that is built today: words are one space apart
-abbrev pub spelling : Script → List ℕ
-spelling s = flat_map user_text s.users
+-- the first phase has no line of its own
+abbrev pub phases_lines : List Text → List (List Request) → List (List Text)
+phases_lines labels [] = []
+phases_lines labels (first ∷ later) = requests_lines labels first ++ flat_map (later_lines labels) later
 
+-- a user: `user NAME`, and its phases
+abbrev pub user_lines : List Text → UserScript → List (List Text)
+user_lines labels u = (codes "user" ∷ u.name ∷ []) ∷ phases_lines labels u.phases
+
+-- the code blocks, and then the users
+abbrev pub script_lines : Script → List (List Text)
+script_lines s = flat_map (code_lines (labels_of s)) s.codes ++ flat_map (user_lines (labels_of s)) s.users
+
+-- ---- the lines of the bytes
+
+-- no words, or a comment: the first word begins with `#`
+abbrev pub is_skipped : List Text → Bool
+is_skipped [] = true
+is_skipped (w ∷ ws) = get_or w 0 0 == 35
+
+-- the words of each line that is not skipped
+abbrev pub kept : List (List ℕ) → List (List Text)
+kept lines = filter (λ ws. not (is_skipped ws)) (map words_of lines)
+
+abbrev pub is_printable : ℕ → Bool
+is_printable b = nat_le 32 b && nat_le b 126
+
+-- at most 200 bytes, all of them printable
+abbrev pub is_line : List ℕ → Bool
+is_line line = nat_le (length line) 200 && list_all is_printable line
+
+-- ---- the scripts that are built
+
+-- one row for each request that is built today
 abbrev pub IsBuiltRequest : Request → Type 0
 IsBuiltRequest (Mint rd) = Unit {0}
 IsBuiltRequest (Restrict rd rs keep) = Unit {0}
+IsBuiltRequest (Set rd n) = Unit {0}
+IsBuiltRequest (Move rd rs) = Unit {0}
+IsBuiltRequest (Add rd ra rb) = Unit {0}
 IsBuiltRequest _ = ⊥
 
--- a user with one phase, whose requests are built
-pub record IsBuiltUser (user : UserScript) : Type 0 where
-  pub one : length user.phases ≡ 1
-  pub requests : AllByRecursion (AllByRecursion IsBuiltRequest) user.phases
+abbrev pub IsBuiltUser : UserScript → Type 0
+IsBuiltUser u = AllByRecursion (AllByRecursion IsBuiltRequest) u.phases
 
--- one user, and no code block
+abbrev pub IsBuiltCode : CodeBlock → Type 0
+IsBuiltCode c = AllByRecursion IsBuiltRequest c.body
+
+-- well formed, and every request is built
 pub record IsBuilt (s : Script) : Type 0 where
   pub well_formed : IsWellFormed s
-  pub one : length s.users ≡ 1
   pub users : AllByRecursion IsBuiltUser s.users
-  pub no_code : s.codes ≡ []
+  pub codes : AllByRecursion IsBuiltCode s.codes
 
--- the bytes are not too many, and spell the script
+-- a body names the labels of blocks before it and its own alone; so many blocks stand before these
+abbrev pub AreInOrder : ℕ → List CodeBlock → Type 0
+AreInOrder before [] = Unit {0}
+AreInOrder before (c ∷ cs) = AllByRecursion (InRange (before + 1)) c.body × AreInOrder (before + 1) cs
+
+-- The bytes are few and their lines short and printable. Those that are not skipped have the words of the script, in which no body names a later block.
 pub record IsScript (bytes : List ℕ) (s : Script) : Type 0 where
   pub short : length bytes ≤ 1048576
-  pub spelled : bytes ≡ spelling s
+  pub lines : AllByRecursion (λ line. IsTrue (is_line line)) (lines_of bytes)
+  pub spelled : kept (lines_of bytes) ≡ script_lines s
+  pub order : AreInOrder 0 s.codes
   pub built : IsBuilt s

@@ -4,3 +4,4 @@ pub mod Number
 pub mod Hex
 pub mod Lines
 pub mod Tokens
+pub mod Draws

@@ -1,1 +1,4 @@
 pub mod Words
+pub mod Guard
+pub mod Directory
+pub mod Block

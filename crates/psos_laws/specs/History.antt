@@ -1,0 +1,84 @@
+-- The history of a run, the last request first, and the origins that it gives. States docs/promises.md, "Origins".
+use Rattle.std.specs.Prelude.{◌≡◌, ℕ, ◌==◌, if◌then◌else◌, nat_le, List, [], ◌∷◌, length, slice_get, Option, Some, None}
+use Rattle.std.specs.Option.{option_map}
+use Rattle.psos_caps.specs.Capability.{Capability}
+use Rattle.psos_calls.specs.declared.request.Request.{Request}
+use Rattle.psos_calls.specs.Script.{Script}
+use Rattle.psos_calls.specs.User.{User, next_request}
+use Rattle.psos_calls.specs.Tests.{if_there}
+use Rattle.psos_model.specs.declared.place.Place.{Place}
+use Rattle.psos_model.specs.Flat.{Flat}
+use Rattle.psos_model.specs.Places.{cap_at}
+use Rattle.psos_model.specs.Outcome.{Source}
+use Rattle.psos_model.specs.Answer.{outcome, answer}
+use Rattle.psos_model.specs.Boot.{boot}
+use Rattle.psos_laws.specs.declared.origin.Origin.{Origin}
+use Rattle.psos_laws.specs.declared.way.Way.{Way}
+use Rattle.psos_laws.specs.declared.way.Way.TheVariants.{Boot, Made, Copied}
+use Rattle.psos_laws.specs.Landings.{Landing, found, puts, before}
+use Rattle.psos_laws.specs.Reads.{IsCopy}
+
+-- a request of a run: the state before it, its user, what it put where, and where the word of each place lay before
+pub record Event : Type 0 where
+  pub flat : Flat
+  pub user : ℕ
+  pub landings : List Landing
+  pub moved : Place → Place
+
+-- user u's next request; without one nothing moves
+abbrev pub event_by : Script → Flat → ℕ → User → Option Request → Event
+event_by s f u x None = record { flat = f; user = u; landings = []; moved = λ p. p }
+event_by s f u x (Some request) = record { flat = f; user = u; landings = puts s f x request; moved = before (outcome f x request).changes }
+
+abbrev pub event_at : Script → Flat → ℕ → Event
+event_at s f u =
+    if_there (slice_get f.users u) (record { flat = f; user = u; landings = []; moved = λ p. p })
+    (λ x. event_by s f u x (next_request s x))
+
+-- the requests of these users come before what is past
+abbrev pub past_after : Script → Flat → List Event → List ℕ → List Event
+past_after s f past [] = past
+past_after s f past (u ∷ us) = past_after s (answer s f u).0 (event_at s f u ∷ past) us
+
+-- the history of an order from a state, and from boot
+abbrev pub history_from : Script → Flat → List ℕ → List Event
+history_from s f order = past_after s f [] order
+
+abbrev pub history : Script → List ℕ → List Event
+history s order = history_from s (boot s) order
+
+-- the request with a stamp
+abbrev pub entry_at : List Event → ℕ → Option Event
+entry_at [] t = None
+entry_at (e ∷ past) t = if t == length past then Some e else entry_at past t
+
+-- ---- origins
+
+-- an identifier that was new was made, whatever was read
+abbrev pub way_by : ℕ → Capability → Option Source → Way
+way_by next cap None = Made
+way_by next cap (Some q) = if nat_le next cap.uid then Made else Copied q.place q.by
+
+abbrev pub origin_by : ℕ → ℕ → Capability → Option Source → Origin
+origin_by stamp next cap source = record { stamp = Some stamp; way = way_by next cap source }
+
+-- the origin of a capability that lies at a place: the last request that put it there gave it, or boot
+abbrev pub origin_of : List Event → Place → Capability → Origin
+origin_of [] p cap = record { stamp = None; way = Boot }
+origin_of (e ∷ past) p cap = if_there (found e.landings p) (origin_of past (e.moved p) cap) (λ l. origin_by (length past) e.flat.next cap l.source)
+
+-- the origin at a place, where it holds a capability
+abbrev pub origin : List Event → Flat → Place → Option Origin
+origin past f p = option_map (origin_of past p) (cap_at f p)
+
+-- ---- sound origins
+
+-- a copy is one that the request's user could make then
+abbrev pub IsSoundWay : List Event → Capability → Option ℕ → Way → Type 0
+IsSoundWay past cap (Some t) (Copied q by) = (e : Event) × (entry_at past t ≡ Some e) × IsCopy e.flat e.user cap q by
+IsSoundWay past cap None (Copied q by) = ⊥
+IsSoundWay past cap t _ = Unit {0}
+
+-- each capability has a sound origin
+abbrev pub AreSoundOrigins : List Event → Flat → Type 0
+AreSoundOrigins past f = (p : Place) (cap : Capability) → cap_at f p ≡ Some cap → IsSoundWay past cap (origin_of past p cap).stamp (origin_of past p cap).way

@@ -1,0 +1,6 @@
+pub mod Landings
+pub mod Reads
+pub mod History
+pub mod Trails
+pub mod Sealed
+pub mod Laws

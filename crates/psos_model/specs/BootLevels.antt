@@ -1,0 +1,60 @@
+-- The levels at boot. States docs/levels.md, "Pages and slots".
+use Rattle.std.specs.Prelude.{ℕ, ◌+◌, ◌-◌, ◌*◌, true, List, [], ◌∷◌, ◌++◌, length, replicate, Option, Some, None}
+use Rattle.std.specs.FinMap as map
+use Rattle.psos_table.specs.Table.{Table, put}
+use Rattle.psos_caps.specs.Capability.{full}
+use Rattle.psos_words.specs.declared.word.Word.{Word}
+use Rattle.psos_words.specs.Words.{zeros}
+use Rattle.psos_words.specs.Directory.{entry_words}
+use Rattle.psos_calls.specs.declared.seg_row.SegRow.{SegRow}
+use Rattle.psos_calls.specs.declared.obj_row.ObjRow.{ObjRow}
+use Rattle.psos_calls.specs.Script.{Script, UserScript}
+use Rattle.psos_calls.specs.Level7.{Pages, written}
+use Rattle.psos_calls.specs.Level10.{DirState}
+use Rattle.psos_calls.specs.Levels.{Levels}
+use Rattle.psos_model.specs.Boot.{home_of, home_rep_of, scratch_of, guard_1, scratch_name, boot_next, boot_life, boot_boxes}
+
+-- the root's representation has slot 0, user i's home slot 1 + 2i and its scratch segment slot 2 + 2i
+abbrev pub home_slot : ℕ → ℕ
+home_slot i = 1 + 2 * i
+
+abbrev pub scratch_slot : ℕ → ℕ
+scratch_slot i = 2 + 2 * i
+
+-- the words of user i's home: the entry of its scratch segment in entry slot 0
+abbrev pub home_words : ℕ → List Word
+home_words i = written (zeros 512) 0 (entry_words scratch_name (full (scratch_of i)) true)
+
+-- the taken slots of users, and then the free ones
+abbrev pub user_slots : ℕ → List UserScript → Pages
+user_slots i [] = []
+user_slots i (user ∷ users) = Some (home_words i) ∷ Some (zeros 512) ∷ user_slots (i + 1) users
+
+abbrev pub boot_pages : Script → Pages
+boot_pages s = Some (zeros 512) ∷ (user_slots 0 s.users ++ replicate (520 - 2 * length s.users) None)
+
+abbrev pub boot_rows : ℕ → List UserScript → Table SegRow
+boot_rows i [] = put map.empty 2 (record { slot = 0; len = 512; guard = guard_1 })
+boot_rows i (user ∷ users) =
+    put (put (boot_rows (i + 1) users) (home_rep_of i) (record { slot = home_slot i; len = 512; guard = guard_1 }))
+    (scratch_of i) (record { slot = scratch_slot i; len = 64; guard = guard_1 })
+
+abbrev pub boot_objects : ℕ → List UserScript → Table ObjRow
+boot_objects i [] = put map.empty 1 (record { of = None; rep = full 2 })
+boot_objects i (user ∷ users) = put (boot_objects (i + 1) users) (home_of i) (record { of = None; rep = full (home_rep_of i) })
+
+abbrev pub boot_guards : ℕ → List UserScript → DirState
+boot_guards i [] = put map.empty 1 guard_1
+boot_guards i (user ∷ users) = put (boot_guards (i + 1) users) (home_of i) guard_1
+
+abbrev pub boot_levels : Script → Levels
+boot_levels s = record {
+  next = boot_next s;
+  pages = boot_pages s;
+  segs = record { segments = boot_rows 0 s.users; windows = map.empty };
+  types = record { types = map.empty; objects = boot_objects 0 s.users };
+  dirs = boot_guards 0 s.users;
+  life = boot_life 0 s.users;
+  boxes = boot_boxes 0 s.users;
+  codes = map.empty;
+}
