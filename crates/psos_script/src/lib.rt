@@ -1,16 +1,28 @@
-//! Scripts from their bytes: the users and their requests, or why there is no script.
+//! Scripts from their bytes: the users and their requests, or the first faulty line and its cause.
 #![tactic(auto)]
 
-mod cut;
+mod cause;
+mod class;
+mod draft;
 mod fault;
+mod head;
 mod laws;
+mod line_fault;
+mod lines;
+mod name_list;
+mod open;
 mod operands;
-mod request;
+mod place;
+mod rows;
 mod script;
-
-pub use fault::ReadFault;
-pub use laws::one_script_only;
-pub use script::read_script;
-
 #[cfg(test)]
 mod tests;
+mod text;
+mod verb;
+
+pub use cause::Cause;
+pub use class::Class;
+pub use fault::{ReadFault, ScriptFault};
+pub use laws::{no_fault_is_a_script, one_script_only, the_least_fault_is_reported};
+pub use script::read_script;
+pub use text::put_cause;

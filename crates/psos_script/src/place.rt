@@ -1,0 +1,8 @@
+// Where a line stands.
+/// Where a line stands.
+#[derive(Clone, Copy, PartialEq, Eq, Debug)]
+pub enum Place {
+    Outside,
+    InBody,
+    InUser,
+}
