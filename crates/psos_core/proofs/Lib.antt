@@ -1,7 +1,12 @@
-pub mod Alone
-pub mod Served
+pub mod Lists
+pub mod Phases
+pub mod PlainPlans
+pub mod Requests
 pub mod Charges
 pub mod Booted
-pub mod SerialOrder
+pub mod Served
+pub mod Orders
+pub mod BuiltScripts
+pub mod Counted
+pub mod Left
 pub mod Along
-pub mod Counts

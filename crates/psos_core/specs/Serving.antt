@@ -9,15 +9,18 @@ use Rattle.psos_calls.specs.declared.entry.Entry.{Entry}
 use Rattle.psos_calls.specs.Script.{Script}
 use Rattle.psos_calls.specs.Request.{InRange}
 use Rattle.psos_calls.specs.User.{User, next_request, EffectFits}
+use Rattle.psos_calls.specs.Levels.{Levels}
 use Rattle.psos_calls.specs.Plan.{PlanRun}
 use Rattle.psos_model.specs.Spelling.{IsBuiltRequest}
 use Rattle.psos_model.specs.Run.{IsComplete, run}
 use Rattle.psos_model.specs.Replay.{System, replay_step, replay, order_of, AreFaithful}
-use Rattle.psos_model.specs.StandsFor.{StandsFor}
+use Rattle.psos_model.specs.Output.{calls_of}
+use Rattle.psos_model.specs.StandsFor.{StandsInPart}
+use Rattle.psos_core.specs.Order.{serial_order}
 
--- a plan was run: the level's state, the calls, the reply and the effect are its own
-pub record IsPlanRun (p : PlanRun) (next : ℕ) (calls : List (Level × LevelCall)) (reply : Reply) (effect : Effect) : Type 0 where
-  pub next-is : next ≡ p.levels.next
+-- a plan was run from these levels: the next identifier, the calls, the reply and the effect are its own, and it changed no other level
+pub record IsPlanRun (p : PlanRun) (l : Levels) (next : ℕ) (calls : List (Level × LevelCall)) (reply : Reply) (effect : Effect) : Type 0 where
+  pub levels-are : p.levels ≡ record l { next = next }
   pub calls-are : calls ≡ p.calls
   pub reply-is : reply ≡ p.reply
   pub effect-is : effect ≡ p.effect
@@ -39,9 +42,11 @@ pub record IsServed (s : Script) (old : System) (u : ℕ) (new : System) (entry 
   pub system-is : new ≡ (replay_step s old u).0
   pub entry-is : entry ≡ (replay_step s old u).1
 
--- a whole run from boot: its order is complete, its entries are faithful, and the levels are those of the replay and stand for the flat state
+-- a whole serial run from boot: its order is complete and serial, its entries are faithful and made few level calls, the levels are those of the replay, and stand in part for the flat state
 pub record IsWholeRun (s : Script) (entries : List Entry) (left : System) : Type 0 where
   pub complete : IsComplete s (order_of entries)
   pub faithful : AreFaithful s entries
+  pub serial : order_of entries ≡ serial_order s
+  pub few : calls_of entries < 2 ^ 64
   pub replayed : left ≡ replay s (order_of entries)
-  pub stands : StandsFor left (run s (order_of entries))
+  pub stands : StandsInPart left (run s (order_of entries))

@@ -99,7 +99,7 @@ impl<B: Store> Levels<B> {
         requires script { IsWellFormed script.now }
         requires least { 8 ≤ frames }
         requires most { frames ≤ 256 }
-        ensures booted { IfOk result (λ l. system_of l ≡ boot_system script.now) }
+        ensures booted { IfOk result (λ l. system_of script.now l ≡ boot_system script.now) }
         ensures store { IfOk result (λ l. l.store ≡ store) }
     {
         let _frames = frames;

@@ -17,9 +17,9 @@ pub fn serve<B: Store>(
     u: u8,
     request: &Request,
 ) -> Result<Entry, AllocError>
-    requires { Asks script.now (system_of levels.old) u request.now }
-    ensures ok { IfOk result (IsServed script.now (system_of levels.old) u
-        (system_of levels.new)) }
+    requires { Asks script.now (system_of script.now levels.old) u request.now }
+    ensures ok { IfOk result (IsServed script.now (system_of script.now levels.old) u
+        (system_of script.now levels.new)) }
     ensures store { levels.new.store ≡ levels.old.store }
 {
     let me = &levels.privates.as_slice()[u as usize];

@@ -1,1 +1,1 @@
-pub mod OneWord
+pub mod Refused

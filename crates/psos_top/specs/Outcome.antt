@@ -1,5 +1,5 @@
 -- How a command ends. States docs/program.md, "Statuses".
-use Rattle.std.specs.Prelude.{◌≡◌, ℕ, ◌≤◌, List, [], ◌⊎◌, Option, None, IfSome, IsSomeAnd, codes}
+use Rattle.std.specs.Prelude.{◌≡◌, ℕ, ◌≤◌, ◌++◌, List, [], ◌∷◌, ◌⊎◌, Option, Some, None, IfSome, IsSomeAnd, codes, decimal}
 use Rattle.std.specs.Io.KnownBytes.{Appends, Keeps, IsAtEnd}
 use Rattle.psos_io.specs.Bytes.{AppendsFront}
 use Rattle.psos_io.specs.Causes.{Rose}
@@ -8,10 +8,14 @@ use Rattle.psos_calls.specs.Script.{Script}
 use Rattle.psos_model.specs.Spelling.{IsScript}
 use Rattle.psos_model.specs.Replay.{System, order_of}
 use Rattle.psos_model.specs.Output.{output}
+use Rattle.psos_script.specs.declared.cause.Cause.{Cause}
+use Rattle.psos_script.specs.Fault.{fault_of}
+use Rattle.psos_script.specs.CauseText.{cause_text}
 use Rattle.psos_core.specs.Serving.{IsWholeRun}
 
-abbrev pub not_built_text : List ℕ
-not_built_text = codes "line 0: not built\n"
+-- line L: CAUSE
+abbrev pub fault_line : ℕ → Cause → List ℕ
+fault_line line cause = codes "line " ++ (decimal line ++ (codes ": " ++ (cause_text cause ++ 10 ∷ [])))
 
 abbrev pub read_fault_text : List ℕ
 read_fault_text = codes "read fault\n"
@@ -33,6 +37,14 @@ pub record Wrote (before now : Option (List ℕ)) (faults_before faults_now : �
   pub front : AppendsFront before now text
   pub whole : Appends before now text ⊎ Rose faults_before faults_now
 
+-- status 2: the bytes, where they are known, are no script, and the line of their first fault was written, or a front of it and a write failed
+pub record IsRefused (input before now : Option (List ℕ)) (faults_before faults_now : ℕ) : Type 0 where
+  pub line : ℕ
+  pub cause : Cause
+  pub first : IfSome input (λ bytes. fault_of bytes ≡ Some (line, cause))
+  pub none : SpellsNone input
+  pub text : Wrote before now faults_before faults_now (fault_line line cause)
+
 -- status 0: the script was read, a whole run was made, and its output was written in whole
 pub record IsPrinted (input_before input_now before now : Option (List ℕ)) (entries : List Entry) (left : Option System) (s : Script) : Type 0 where
   pub read : WasRead input_before input_now s
@@ -46,7 +58,7 @@ pub record IsCut (input_before input_now before now : Option (List ℕ)) (entrie
   pub text : AppendsFront before now (output s (order_of entries))
 
 -- no run was made
-pub record IsNoRun (entries : List Entry) (left : Option System) : Type 0 where
+pub record IsNoRun {X : Type 0} (entries : List Entry) (left : Option X) : Type 0 where
   pub entries-none : entries ≡ []
   pub left-none : left ≡ None
 

@@ -1,9 +1,9 @@
 // The ends of a command.
-ghost use Rattle.std.specs.Prelude.{◌≡◌, ◌≤◌, ◌<◌, ◌^◌, None, IfSome, option_map};
-ghost use Rattle.psos_model.specs.Output.{calls_of};
+ghost use Rattle.std.specs.Prelude.{◌≡◌, ◌≤◌, ◌⊎◌, None, IfOk, IfSome, option_map};
+ghost use Rattle.std.specs.Io.KnownBytes.{Keeps};
 ghost use Rattle.psos_core.specs.System.{system_of};
 ghost use Rattle.psos_core.specs.Serving.{IsWholeRun};
-ghost use Rattle.psos_top.specs.Outcome.{Wrote, IsNoRun, RunEnds};
+ghost use Rattle.psos_top.specs.Outcome.{fault_line, Wrote, IsNoRun, RunEnds};
 
 use crate::outcome::Outcome;
 use psos_calls::{Entry, Script};
@@ -11,12 +11,14 @@ use psos_core::Levels;
 use psos_io::{Sink, Store, put_all};
 use psos_journal::Entries;
 use psos_print::print_run;
-use std::alloc::Global;
+use psos_script::{ScriptFault, put_cause};
+use psos_text::put_number;
+use std::alloc::{AllocError, Global};
 
 /// An end without a run, where so many calls of the store had failed.
 pub fn no_run<B: Store>(alloc: Global, status: u8, store_faults: u64) -> Outcome<B>
     ensures status { result.status ≡ status }
-    ensures none { IsNoRun result.entries (option_map system_of result.levels) }
+    ensures none { IsNoRun result.entries result.levels }
     ensures levels { result.levels ≡ None }
     ensures store { result.store ≡ None }
     ensures store_faults { result.store_faults ≡ store_faults }
@@ -39,7 +41,7 @@ pub fn stop<K: Sink, B: Store>(
     store: B,
 ) -> Outcome<B>
     ensures status { result.status ≡ status }
-    ensures none { IsNoRun result.entries (option_map system_of result.levels) }
+    ensures none { IsNoRun result.entries result.levels }
     ensures wrote { Wrote (K.took output.old) (K.took output.new) (K.faults output.old) (K.faults output.new) text.now }
     ensures later { K.faults output.old ≤ K.faults output.new }
     ensures levels { result.levels ≡ None }
@@ -50,6 +52,43 @@ pub fn stop<K: Sink, B: Store>(
     no_run(alloc, status, store.faults())
 }
 
+// The line of a fault.
+fn fault_text(alloc: Global, fault: ScriptFault) -> Result<Vec<u8>, AllocError>
+    ensures { IfOk result (λ text. text.items ≡ fault_line fault.line fault.cause) }
+{
+    let mut text = Vec::new(alloc);
+    text.extend_from_slice(b"line ")?;
+    put_number(alloc, &mut text, fault.line as u64)?;
+    text.extend_from_slice(b": ")?;
+    put_cause(alloc, &mut text, fault.cause)?;
+    text.extend_from_slice(b"\n")?;
+    Ok(text)
+}
+
+/// The line of the first fault of a script, in place of a run. Where there is no memory for it nothing is written, and
+/// the status is 6.
+pub fn refuse<K: Sink, B: Store>(
+    alloc: Global,
+    output: &mut K,
+    fault: ScriptFault,
+    store: B,
+) -> Outcome<B>
+    ensures which { (result.status ≡ 2) ⊎ (result.status ≡ 6) }
+    ensures none { IsNoRun result.entries result.levels }
+    ensures wrote { result.status ≡ 2 →
+        Wrote (K.took output.old) (K.took output.new) (K.faults output.old) (K.faults output.new) (fault_line fault.line fault.cause) }
+    ensures memory { result.status ≡ 6 → Keeps (K.took output.old) (K.took output.new) }
+    ensures later { K.faults output.old ≤ K.faults output.new }
+    ensures levels { result.levels ≡ None }
+    ensures store { result.store ≡ None }
+    ensures store_faults { result.store_faults ≡ B.faults store }
+{
+    let Ok(text) = fault_text(alloc, fault) else {
+        return no_run(alloc, 6, store.faults());
+    };
+    stop(alloc, output, 2, &text, store)
+}
+
 /// Prints a whole run.
 pub fn finish<K: Sink, B: Store>(
     alloc: Global,
@@ -58,10 +97,9 @@ pub fn finish<K: Sink, B: Store>(
     levels: Levels<B>,
     output: &mut K,
 ) -> Outcome<B>
-    requires run { IsWholeRun script.now entries (system_of levels) }
-    requires few { calls_of entries < 2 ^ 64 }
+    requires run { IsWholeRun script.now entries (system_of script.now levels) }
     ensures ends { RunEnds (K.took output.old) (K.took output.new) (K.faults output.old) (K.faults output.new)
-        script.now result.status result.entries (option_map system_of result.levels) }
+        script.now result.status result.entries (option_map (system_of script.now) result.levels) }
     ensures kept { IfSome result.levels (λ l. l.store ≡ levels.store) }
     ensures store { result.store ≡ None }
     ensures store_faults { result.store_faults ≡ B.faults levels.store }

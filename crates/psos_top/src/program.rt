@@ -1,15 +1,16 @@
 // The program.
-ghost use Rattle.std.specs.Prelude.{◌≡◌, ◌≢◌, ◌≤◌, ◌↔◌, [], ◌∷◌, None, IfSome, map, codes, string_bytes, option_map};
+ghost use Rattle.std.specs.Prelude.{◌≡◌, ◌≤◌, ◌↔◌, None, IfSome, map, string_bytes, option_map};
 ghost use Rattle.std.specs.Io.KnownBytes.{Keeps};
 ghost use Rattle.psos_io.specs.Causes.{Rose};
 ghost use Rattle.psos_calls.specs.Script.{Script as Spelled};
 ghost use Rattle.psos_core.specs.System.{system_of};
-ghost use Rattle.psos_top.specs.Outcome.{not_built_text, read_fault_text, usage_text, SpellsNone, IsStatus, HasNoRun, Wrote, IsPrinted, IsCut, IsNoRun};
+ghost use Rattle.psos_top.specs.Words.{frames_asked};
+ghost use Rattle.psos_top.specs.Outcome.{read_fault_text, usage_text, IsRefused, IsStatus, HasNoRun, Wrote, IsPrinted, IsCut, IsNoRun};
 
 use crate::ending::stop;
 use crate::outcome::Outcome;
 use crate::serial::serial_call;
-use crate::words::is_serial;
+use crate::words::read_words;
 use psos_io::{Gate, Sink, Source, Store};
 use std::alloc::Global;
 use std::sync::Wait;
@@ -28,20 +29,18 @@ pub fn psos_main<R: Threads + Wait + Sync, I: Source, K: Sink, B: Store + Send, 
 ) -> Outcome<B>
     ensures which { IsStatus result.status }
 
-    // At 1, and only there, the words are none that are built.
-    ensures usage { (result.status ≡ 1) ↔ (map string_bytes words.now ≢ codes "serial" ∷ []) }
+    // At 1, and only there, the words have not the shape.
+    ensures usage { (result.status ≡ 1) ↔ (frames_asked (map string_bytes words.now) ≡ None) }
     ensures usage_text { result.status ≡ 1 →
         Wrote (K.took output.old) (K.took output.new) (K.faults output.old) (K.faults output.new) usage_text }
 
     // At 0, what was written is the output of the flat objects for the order that the entries record.
     ensures printed { result.status ≡ 0 → (s : Spelled) × IsPrinted (I.left input.old) (I.left input.new)
-        (K.took output.old) (K.took output.new) result.entries (option_map system_of result.levels) s }
+        (K.took output.old) (K.took output.new) result.entries (option_map (system_of s) result.levels) s }
 
-    // At 2, the bytes are no script.
-    ensures not_built { result.status ≡ 2 → SpellsNone (I.left input.old) }
-    ensures not_built_text { result.status ≡ 2 →
-        Wrote (K.took output.old) (K.took output.new) (K.faults output.old) (K.faults output.new) not_built_text }
-
+    // At 2, the bytes are no script, and their first fault was written.
+    ensures refused { result.status ≡ 2 → IsRefused (I.left input.old)
+        (K.took output.old) (K.took output.new) (K.faults output.old) (K.faults output.new) }
     // At 3, the source failed.
     ensures read_fault { result.status ≡ 3 → Rose (I.faults input.old) (I.faults input.new) }
     ensures read_fault_text { result.status ≡ 3 →
@@ -50,13 +49,13 @@ pub fn psos_main<R: Threads + Wait + Sync, I: Source, K: Sink, B: Store + Send, 
     // At 4, the sink failed.
     ensures write_fault { result.status ≡ 4 → Rose (K.faults output.old) (K.faults output.new) }
     ensures cut { result.status ≡ 4 → (s : Spelled) × IsCut (I.left input.old) (I.left input.new)
-        (K.took output.old) (K.took output.new) result.entries (option_map system_of result.levels) s }
+        (K.took output.old) (K.took output.new) result.entries (option_map (system_of s) result.levels) s }
 
     // At 6, nothing was written.
     ensures memory { result.status ≡ 6 → Keeps (K.took output.old) (K.took output.new) }
 
     // At 1, 2, 3 and 6 no run was made.
-    ensures none { HasNoRun result.status → IsNoRun result.entries (option_map system_of result.levels) }
+    ensures none { HasNoRun result.status → IsNoRun result.entries result.levels }
 
     ensures source_faults { I.faults input.old ≤ I.faults input.new }
     ensures sink_faults { K.faults output.old ≤ K.faults output.new }
@@ -64,7 +63,7 @@ pub fn psos_main<R: Threads + Wait + Sync, I: Source, K: Sink, B: Store + Send, 
     ensures store { result.store ≡ None }
     ensures store_faults { result.store_faults ≡ B.faults store }
 {
-    if !is_serial(words) {
+    let Some(frames) = read_words(words) else {
         return stop(
             alloc,
             output,
@@ -72,6 +71,6 @@ pub fn psos_main<R: Threads + Wait + Sync, I: Source, K: Sink, B: Store + Send, 
             b"usage: psos COMMAND [OPTION N]...\n",
             store,
         );
-    }
-    serial_call(alloc, 32, input, output, store)
+    };
+    serial_call(alloc, frames, input, output, store)
 }

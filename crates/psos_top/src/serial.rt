@@ -5,9 +5,9 @@ ghost use Rattle.psos_io.specs.Causes.{Rose};
 ghost use Rattle.psos_calls.specs.Script.{Script as Spelled};
 ghost use Rattle.psos_model.specs.Spelling.{IsBuilt};
 ghost use Rattle.psos_core.specs.System.{system_of};
-ghost use Rattle.psos_top.specs.Outcome.{not_built_text, read_fault_text, SpellsNone, IsSerialStatus, HasNoRun, Wrote, IsPrinted, IsCut, IsNoRun, RunEnds};
+ghost use Rattle.psos_top.specs.Outcome.{read_fault_text, IsRefused, IsSerialStatus, HasNoRun, Wrote, IsPrinted, IsCut, IsNoRun, RunEnds};
 
-use crate::ending::{finish, no_run, stop};
+use crate::ending::{finish, no_run, refuse, stop};
 use crate::outcome::Outcome;
 use psos_calls::Script;
 use psos_core::{Levels, run_serial};
@@ -27,7 +27,7 @@ fn run_script<K: Sink, B: Store>(
     requires least { 8 ≤ frames }
     requires most { frames ≤ 256 }
     ensures ends { RunEnds (K.took output.old) (K.took output.new) (K.faults output.old) (K.faults output.new)
-        script.now result.status result.entries (option_map system_of result.levels) }
+        script.now result.status result.entries (option_map (system_of script.now) result.levels) }
     ensures kept { IfSome result.levels (λ l. l.store ≡ store) }
     ensures store { result.store ≡ None }
     ensures store_faults { result.store_faults ≡ B.faults store }
@@ -60,13 +60,11 @@ pub fn serial_call<I: Source, K: Sink, B: Store>(
 
     // At 0, what was written is the output of the flat objects for the order that the entries record.
     ensures printed { result.status ≡ 0 → (s : Spelled) × IsPrinted (I.left input.old) (I.left input.new)
-        (K.took output.old) (K.took output.new) result.entries (option_map system_of result.levels) s }
+        (K.took output.old) (K.took output.new) result.entries (option_map (system_of s) result.levels) s }
 
-    // At 2, the bytes are no script.
-    ensures not_built { result.status ≡ 2 → SpellsNone (I.left input.old) }
-    ensures not_built_text { result.status ≡ 2 →
-        Wrote (K.took output.old) (K.took output.new) (K.faults output.old) (K.faults output.new) not_built_text }
-
+    // At 2, the bytes are no script, and their first fault was written.
+    ensures refused { result.status ≡ 2 → IsRefused (I.left input.old)
+        (K.took output.old) (K.took output.new) (K.faults output.old) (K.faults output.new) }
     // At 3, the source failed.
     ensures read_fault { result.status ≡ 3 → Rose (I.faults input.old) (I.faults input.new) }
     ensures read_fault_text { result.status ≡ 3 →
@@ -75,13 +73,13 @@ pub fn serial_call<I: Source, K: Sink, B: Store>(
     // At 4, the sink failed.
     ensures write_fault { result.status ≡ 4 → Rose (K.faults output.old) (K.faults output.new) }
     ensures cut { result.status ≡ 4 → (s : Spelled) × IsCut (I.left input.old) (I.left input.new)
-        (K.took output.old) (K.took output.new) result.entries (option_map system_of result.levels) s }
+        (K.took output.old) (K.took output.new) result.entries (option_map (system_of s) result.levels) s }
 
     // At 6, nothing was written.
     ensures memory { result.status ≡ 6 → Keeps (K.took output.old) (K.took output.new) }
 
     // At 2, 3 and 6 no run was made.
-    ensures none { HasNoRun result.status → IsNoRun result.entries (option_map system_of result.levels) }
+    ensures none { HasNoRun result.status → IsNoRun result.entries result.levels }
 
     ensures source_faults { I.faults input.old ≤ I.faults input.new }
     ensures sink_faults { K.faults output.old ≤ K.faults output.new }
@@ -96,7 +94,7 @@ pub fn serial_call<I: Source, K: Sink, B: Store>(
     };
     match read_script(alloc, &bytes) {
         Ok(script) => run_script(alloc, &script, frames, output, store),
-        Err(ReadFault::NotBuilt) => stop(alloc, output, 2, b"line 0: not built\n", store),
-        Err(ReadFault::Memory) => no_run(alloc, 6, store.faults()),
+        Err(ReadFault::Script(fault)) => refuse(alloc, output, fault, store),
+        Err(ReadFault::Memory(_)) => no_run(alloc, 6, store.faults()),
     }
 }
