@@ -17,7 +17,9 @@ use Rattle.psos_model.specs.declared.place.Place.{Place}
 use Rattle.psos_model.specs.declared.place.Place.TheVariants.{Reg, FrameReg, PathAt, SegWord, DirName, BoxAt, Link, ImplOf}
 use Rattle.psos_model.specs.Flat.{Flat}
 use Rattle.psos_model.specs.Places.{same_place, reg_place, cap_in}
-use Rattle.psos_model.specs.Changes.{Change, PutWord, Bind, Register, Post, Draw, MakeObject, MakeDirectory, MakeCode, changed}
+use Rattle.psos_model.specs.declared.change.Change.{Change}
+use Rattle.psos_model.specs.declared.change.Change.TheVariants.{PutWord, Bind, Register, Post, Draw, MakeObject, MakeDirectory, MakeCode}
+use Rattle.psos_model.specs.Changes.{changed}
 use Rattle.psos_model.specs.Outcome.{Source, own}
 use Rattle.psos_model.specs.Answer.{outcome}
 

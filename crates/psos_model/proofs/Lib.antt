@@ -1,1 +1,11 @@
 pub mod Agreeing
+pub mod NameOrder
+pub mod TakenBack
+pub mod Told
+pub mod Leftover
+pub mod Walk
+pub mod AboveAnswers
+pub mod Asked
+pub mod Found
+pub mod AnyKept
+pub mod Stepped

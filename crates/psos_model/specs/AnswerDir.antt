@@ -1,5 +1,5 @@
 -- Outcomes of directories and name spaces. States docs/requests.md, "Answers".
-use Rattle.std.specs.Prelude.{ℕ, ◌&&◌, Bool, not, nat_lt, List, [], ◌∷◌, length, Option, Some, None}
+use Rattle.std.specs.Prelude.{ℕ, not, nat_lt, List, [], ◌∷◌, length, None}
 use Rattle.std.specs.FinMap.{keys}
 use Rattle.psos_table.specs.Table.{at}
 use Rattle.psos_caps.specs.Capability.{Capability}
@@ -17,9 +17,9 @@ use Rattle.psos_calls.specs.Tests.{if_there, if_none, if_cap, if_holds}
 use Rattle.psos_calls.specs.User.{User, here}
 use Rattle.psos_calls.specs.Plan.{uid}
 use Rattle.psos_model.specs.declared.place.Place.TheVariants.{DirName}
-use Rattle.psos_model.specs.Flat.{Flat, Directory, named}
+use Rattle.psos_model.specs.Flat.{Flat, named}
 use Rattle.psos_model.specs.Places.{reg_place}
-use Rattle.psos_model.specs.Changes.{Bind, Unbind}
+use Rattle.psos_model.specs.declared.change.Change.TheVariants.{Bind, Unbind}
 use Rattle.psos_model.specs.Outcome.{Outcome, refuse, gives, does, by, own, if_dir, if_room}
 
 abbrev pub answer_lookup : Flat → User → ℕ → ℕ → Name → Outcome

@@ -1,7 +1,7 @@
 -- Outcomes of user objects. States docs/requests.md, "Answers".
-use Rattle.std.specs.Prelude.{ℕ, ◌+◌, ◌==◌, Bool, not, nat_lt, List, [], ◌∷◌, ◌++◌, Option, Some, None}
+use Rattle.std.specs.Prelude.{ℕ, ◌+◌, ◌==◌, Bool, not, nat_lt, List, [], ◌∷◌, None}
 use Rattle.std.specs.FinMap.{len}
-use Rattle.psos_table.specs.Table.{Table, at, kept, size}
+use Rattle.psos_table.specs.Table.{at, kept, size}
 use Rattle.psos_caps.specs.Capability.{Capability, full}
 use Rattle.psos_text.specs.declared.name.Name.{Name}
 use Rattle.psos_words.specs.declared.word.Word.TheVariants as words
@@ -18,9 +18,10 @@ use Rattle.psos_calls.specs.Plan.{uid}
 use Rattle.psos_calls.specs.PlanParts.{is_length}
 use Rattle.psos_calls.specs.PlanLife.{guard_of}
 use Rattle.psos_model.specs.declared.place.Place.TheVariants.{ImplOf}
-use Rattle.psos_model.specs.Flat.{Flat, Object, Directory, named}
+use Rattle.psos_model.specs.Flat.{Flat, Object, named}
 use Rattle.psos_model.specs.Places.{reg_place}
-use Rattle.psos_model.specs.Changes.{Change, Fresh, Register, Unregister, MakeSegment, MakeType, MakeObject, MakeDirectory, MakeCode, DropSegment, DropType, DropObject, DropDirectory, DropCode}
+use Rattle.psos_model.specs.declared.change.Change.{Change}
+use Rattle.psos_model.specs.declared.change.Change.TheVariants.{Fresh, Register, Unregister, MakeSegment, MakeType, MakeObject, MakeDirectory, MakeCode, DropSegment, DropType, DropObject, DropDirectory, DropCode}
 use Rattle.psos_model.specs.Outcome.{Outcome, refuse, gives, does, by, own, if_dir, if_room, if_object_room, make_in}
 
 abbrev pub answer_impl : Flat → User → ℕ → ℕ → ℕ → Outcome

@@ -1,5 +1,5 @@
 -- Outcomes of processes and procedure records. States docs/requests.md, "Answers".
-use Rattle.std.specs.Prelude.{ℕ, ◌+◌, List, [], ◌∷◌, length, nat_lt, nat_le, Option, Some, None}
+use Rattle.std.specs.Prelude.{ℕ, ◌+◌, List, [], ◌∷◌, length, nat_lt, nat_le}
 use Rattle.psos_table.specs.Table.{at}
 use Rattle.psos_words.specs.declared.word.Word.{Word}
 use Rattle.psos_words.specs.Words.{word_at}
@@ -17,7 +17,7 @@ use Rattle.psos_calls.specs.Plan.{uid}
 use Rattle.psos_model.specs.declared.place.Place.TheVariants.{BoxAt, Link}
 use Rattle.psos_model.specs.Flat.{Flat}
 use Rattle.psos_model.specs.Places.{reg_place}
-use Rattle.psos_model.specs.Changes.{Post, Draw}
+use Rattle.psos_model.specs.declared.change.Change.TheVariants.{Post, Draw}
 use Rattle.psos_model.specs.Outcome.{Outcome, refuse, gives, does, by, own}
 
 abbrev pub answer_send : Flat → User → ℕ → ℕ → Outcome

@@ -1,6 +1,6 @@
 -- Outcomes of registers, segments and windows. States docs/requests.md, "Answers".
-use Rattle.std.specs.Prelude.{ℕ, ◌+◌, ◌^◌, List, [], ◌∷◌, Option, Some, None, nat_lt}
-use Rattle.psos_table.specs.Table.{at, size}
+use Rattle.std.specs.Prelude.{ℕ, ◌+◌, ◌^◌, [], ◌∷◌, None, nat_lt}
+use Rattle.psos_table.specs.Table.{size}
 use Rattle.psos_caps.specs.Capability.{full, restricted}
 use Rattle.psos_words.specs.declared.word.Word.TheVariants as words
 use Rattle.psos_words.specs.Words.{word_at}
@@ -15,7 +15,7 @@ use Rattle.psos_calls.specs.Plan.{uid}
 use Rattle.psos_model.specs.declared.place.Place.TheVariants.{SegWord}
 use Rattle.psos_model.specs.Flat.{Flat, words_of}
 use Rattle.psos_model.specs.Places.{reg_place}
-use Rattle.psos_model.specs.Changes.{Fresh, PutWord, MakeWindow}
+use Rattle.psos_model.specs.declared.change.Change.TheVariants.{Fresh, PutWord, MakeWindow}
 use Rattle.psos_model.specs.Outcome.{Outcome, refuse, gives, does, by, own, if_view}
 
 abbrev pub answer_mint : Flat → ℕ → Outcome

@@ -1,5 +1,5 @@
 -- The flat state at boot. States docs/system.md, "Boot".
-use Rattle.std.specs.Prelude.{ℕ, ◌+◌, ◌*◌, true, List, [], ◌∷◌, ◌++◌, length, codes}
+use Rattle.std.specs.Prelude.{ℕ, ◌+◌, ◌*◌, List, [], ◌∷◌, length, codes}
 use Rattle.std.specs.FinMap as map
 use Rattle.psos_table.specs.Table.{Table, put}
 use Rattle.psos_caps.specs.Capability.{Capability, full}

@@ -1,5 +1,5 @@
 -- The levels at boot. States docs/levels.md, "Pages and slots".
-use Rattle.std.specs.Prelude.{ℕ, ◌+◌, ◌-◌, ◌*◌, true, List, [], ◌∷◌, ◌++◌, length, replicate, Option, Some, None}
+use Rattle.std.specs.Prelude.{ℕ, ◌+◌, ◌-◌, ◌*◌, true, List, [], ◌∷◌, ◌++◌, length, replicate, Some, None}
 use Rattle.std.specs.FinMap as map
 use Rattle.psos_table.specs.Table.{Table, put}
 use Rattle.psos_caps.specs.Capability.{full}

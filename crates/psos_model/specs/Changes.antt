@@ -1,46 +1,16 @@
 -- Changes of what users share. States docs/requests.md, "Answers".
-use Rattle.std.specs.Prelude.{ℕ, ◌+◌, ◌==◌, Bool, true, false, not, List, [], ◌∷◌, ◌++◌, drop, slice_set}
+use Rattle.std.specs.Prelude.{ℕ, ◌+◌, true, false, List, [], ◌∷◌, ◌++◌, drop, slice_set}
 use Rattle.std.specs.FinMap.{insert, remove, empty}
-use Rattle.psos_table.specs.Table.{Table, at, put, without, kept, edit}
-use Rattle.psos_caps.specs.Capability.{Capability, full}
+use Rattle.psos_table.specs.Table.{Table, put, without, kept, edit}
+use Rattle.psos_caps.specs.Capability.{full}
 use Rattle.psos_caps.specs.declared.rights.Rights.{Rights}
 use Rattle.psos_text.specs.declared.name.Name.{Name}
-use Rattle.psos_words.specs.declared.word.Word.{Word}
 use Rattle.psos_words.specs.Words.{zeros}
-use Rattle.psos_calls.specs.declared.kind.Kind.{Kind}
 use Rattle.psos_calls.specs.declared.win_row.WinRow.{WinRow}
-use Rattle.psos_calls.specs.declared.code_row.CodeRow.{CodeRow}
 use Rattle.psos_calls.specs.Level8.{is_not_over}
-use Rattle.psos_model.specs.Flat.{Flat, Segment, Object, Directory, Named}
-
--- each change keeps each rule of sound states by itself
-pub data Change : Type 0 where
-  -- an identifier is used up
-  Fresh : Change
-  -- a word of a segment is replaced
-  PutWord : ℕ → ℕ → Word → Change
-  -- a plain entry comes, or goes
-  Bind : ℕ → Name → Capability → Change
-  Unbind : ℕ → Name → Change
-  -- a user object of a kind is told of, with its distinguished entry in a directory; or no more
-  Register : ℕ → ℕ → Name → Kind → Change
-  Unregister : ℕ → ℕ → Name → Change
-  -- a word goes last into a mailbox, or the first word goes
-  Post : ℕ → Word → Change
-  Draw : ℕ → Change
-  -- something is made: a segment of so many words, a window, a type, an object with its representation, a directory, a record
-  MakeSegment : ℕ → ℕ → Rights → Change
-  MakeWindow : ℕ → WinRow → Change
-  MakeType : ℕ → Change
-  MakeObject : ℕ → Object → ℕ → Change
-  MakeDirectory : ℕ → ℕ → Rights → Change
-  MakeCode : ℕ → CodeRow → Change
-  -- something goes: a segment with its windows, an object with its representation and that one's windows
-  DropSegment : ℕ → Change
-  DropType : ℕ → Change
-  DropObject : ℕ → ℕ → Change
-  DropDirectory : ℕ → Change
-  DropCode : ℕ → Change
+use Rattle.psos_model.specs.Flat.{Flat, Segment, Directory, Named}
+use Rattle.psos_model.specs.declared.change.Change.{Change}
+use Rattle.psos_model.specs.declared.change.Change.TheVariants.{Fresh, PutWord, Bind, Unbind, Register, Unregister, Post, Draw, MakeSegment, MakeWindow, MakeType, MakeObject, MakeDirectory, MakeCode, DropSegment, DropType, DropObject, DropDirectory, DropCode}
 
 -- so many words of data 0
 abbrev pub new_segment : ℕ → Rights → Segment

@@ -1,6 +1,11 @@
+pub mod Rows
+pub mod Codes
 pub mod Flat
 pub mod Places
 pub mod Changes
+pub mod Safe
+pub mod Undo
+pub mod Within
 pub mod Outcome
 pub mod AnswerSeg
 pub mod AnswerDir
@@ -9,6 +14,7 @@ pub mod AnswerProc
 pub mod Answer
 pub mod Boot
 pub mod BootLevels
+pub mod CanStep
 pub mod Run
 pub mod Replay
 pub mod StandsFor

@@ -1,20 +1,17 @@
 -- What a request does, and the tests that its refusals are written in. States docs/requests.md, "Answers".
-use Rattle.std.specs.Prelude.{ℕ, ◌&&◌, Bool, nat_lt, nat_le, List, [], ◌∷◌, Option, Some, None}
+use Rattle.std.specs.Prelude.{ℕ, nat_lt, List, [], Option, Some, None}
 use Rattle.std.specs.FinMap.{len}
-use Rattle.psos_table.specs.Table.{Table, at, size}
+use Rattle.psos_table.specs.Table.{at, size}
 use Rattle.psos_caps.specs.Capability.{Capability}
 use Rattle.psos_text.specs.declared.name.Name.{Name}
 use Rattle.psos_words.specs.declared.word.Word.{Word}
-use Rattle.psos_words.specs.declared.word.Word.TheVariants.{Cap}
 use Rattle.psos_calls.specs.declared.kind.Kind.TheVariants.{Segment, Directory as DirectoryKind}
 use Rattle.psos_calls.specs.declared.right.Right.{Right}
 use Rattle.psos_calls.specs.declared.right.Right.TheVariants.{Create}
 use Rattle.psos_calls.specs.declared.tab.Tab.TheVariants.{Objects, Entries}
 use Rattle.psos_calls.specs.declared.refusal.Refusal.{Refusal}
 use Rattle.psos_calls.specs.declared.refusal.Refusal.TheVariants.{Absent, Lacks, NameTaken, Exhausted}
-use Rattle.psos_calls.specs.declared.reply.Reply.{Reply}
 use Rattle.psos_calls.specs.declared.reply.Reply.TheVariants.{Fine, No}
-use Rattle.psos_calls.specs.declared.effect.Effect.{Effect}
 use Rattle.psos_calls.specs.declared.effect.Effect.TheVariants.{Nothing, Put}
 use Rattle.psos_calls.specs.Rights.{has}
 use Rattle.psos_calls.specs.Tests.{if_there, if_none, if_holds}
@@ -22,19 +19,17 @@ use Rattle.psos_calls.specs.Plan.{word_reply}
 use Rattle.psos_calls.specs.Level8.{View}
 use Rattle.psos_model.specs.declared.place.Place.{Place}
 use Rattle.psos_model.specs.Flat.{Flat, Directory, flat_view, named}
-use Rattle.psos_model.specs.Changes.{Change}
+use Rattle.psos_model.specs.declared.change.Change.{Change}
+use Rattle.psos_model.specs.declared.source.Source as source
+use Rattle.psos_model.specs.declared.outcome.Outcome as outcome
 
 -- the place that a request read, and the right by which its user could read it; none for private places and the own mailbox
-pub record Source : Type 0 where
-  pub place : Place
-  pub by : Option Right
+abbrev pub Source : Type 0
+Source = source.Source
 
 -- what a request does: changes of what users share, one effect on its user's own part, the place that it read, if any, and the reply
-pub record Outcome : Type 0 where
-  pub changes : List Change
-  pub effect : Effect
-  pub source : Option Source
-  pub reply : Reply
+abbrev pub Outcome : Type 0
+Outcome = outcome.Outcome
 
 -- a refusal does nothing
 abbrev pub refuse : Refusal → Outcome

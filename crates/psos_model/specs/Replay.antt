@@ -1,5 +1,5 @@
 -- The levels under a run, by the plans of its requests. States docs/promises.md, "Replays".
-use Rattle.std.specs.Prelude.{◌≡◌, ℕ, ◌+◌, List, [], ◌∷◌, map, slice_get, slice_set, Option, Some, None}
+use Rattle.std.specs.Prelude.{◌≡◌, ℕ, List, [], ◌∷◌, map, slice_get, slice_set, Option, Some, None}
 use Rattle.psos_calls.specs.declared.request.Request.{Request}
 use Rattle.psos_calls.specs.declared.reply.Reply.TheVariants.{Fine}
 use Rattle.psos_calls.specs.declared.entry.Entry.{Entry}

@@ -1,5 +1,5 @@
 -- Runs of a script, and which orders of its users they may take. States docs/promises.md, "Runs".
-use Rattle.std.specs.Prelude.{◌≡◌, ℕ, suc, ◌+◌, ◌-◌, ◌==◌, ◌||◌, Bool, true, false, List, [], ◌∷◌, length, slice_get, Option, Some, None, IsTrue, if◌then◌else◌, nat_lt, min, option_map}
+use Rattle.std.specs.Prelude.{◌≡◌, ℕ, ◌+◌, ◌-◌, ◌==◌, ◌||◌, Bool, true, false, List, [], ◌∷◌, length, slice_get, Option, Some, None, IsTrue, if◌then◌else◌, nat_lt, min, option_map}
 use Rattle.psos_calls.specs.declared.request.Request.{Request}
 use Rattle.psos_calls.specs.declared.frame.Frame.{Frame}
 use Rattle.psos_calls.specs.Script.{Script, user_script}

@@ -1,7 +1,7 @@
 -- When the levels and the users' own parts stand for a flat state. States docs/promises.md, "Stands for".
-use Rattle.std.specs.Prelude.{◌≡◌, ◌≢◌, ◌⊎◌, ℕ, ◌<◌, List, length, Option, Some, None, slice_index_or}
+use Rattle.std.specs.Prelude.{◌≡◌, ◌⊎◌, ℕ, ◌<◌, List, length, Option, Some, None}
 use Rattle.std.specs.Option.{option_map}
-use Rattle.psos_table.specs.Table.{Table, at}
+use Rattle.psos_table.specs.Table.{at}
 use Rattle.psos_caps.specs.Capability.{full}
 use Rattle.psos_text.specs.declared.name.Name.{Name}
 use Rattle.psos_words.specs.declared.word.Word.{Word}
@@ -10,9 +10,9 @@ use Rattle.psos_words.specs.Directory.{Slot, Found, decode, find}
 use Rattle.psos_calls.specs.declared.seg_row.SegRow.{SegRow}
 use Rattle.psos_calls.specs.declared.obj_row.ObjRow.{ObjRow}
 use Rattle.psos_calls.specs.Level7.{IsTaken, slot_words}
-use Rattle.psos_calls.specs.Level8.{slot_of, shape_of}
+use Rattle.psos_calls.specs.Level8.{slot_of}
 use Rattle.psos_calls.specs.Plan.{uid}
-use Rattle.psos_model.specs.Flat.{Flat, Segment, Object, Directory, Named, flat_shape, named}
+use Rattle.psos_model.specs.Flat.{Flat, Segment, Object, Directory, Named, named}
 use Rattle.psos_model.specs.Replay.{System}
 
 -- level 9 has each object with its type, and each directory with none

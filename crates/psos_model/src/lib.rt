@@ -1,11 +1,53 @@
 //! What the system is to its users: flat objects, the answer to each request, and the runs of a script.
 //!
-//! The definitions are in specs/. The functions of `laws` carry laws above them: each has an empty body, and its
-//! contract is the law.
+//! The definitions are in specs/. The program here does what they say, slowly and plainly.
 #![tactic(auto)]
 
+mod answer_dir;
+mod answer_life;
+mod answer_proc;
+mod answer_seg;
+mod apply;
+mod boot;
+mod change;
+mod change_list;
+mod directory;
+mod edits;
+mod flat;
+mod guards;
+mod issue;
 mod laws;
+mod left;
+mod mailbox;
+mod named;
+mod names_table;
+mod object;
+mod objects;
+mod outcome;
 mod place;
+mod requests;
+mod rows;
+mod segment;
+mod source;
+mod step;
+mod users;
+mod view;
 
-pub use laws::{boot_stands, requests_agree, runs_agree};
+pub use change::Change;
+pub use change_list::ChangeList;
+pub use directory::Directory;
+pub use flat::Flat;
+pub use laws::{
+    boot_stands, next_rises_by_two, others_stay, refusals_do_nothing, requests_agree, runs_agree,
+};
+pub use mailbox::Mailbox;
+pub use named::Named;
+pub use names_table::NamesTable;
+pub use object::Object;
+pub use objects::Objects;
+pub use outcome::Outcome;
 pub use place::Place;
+pub use segment::Segment;
+pub use source::Source;
+pub use users::Users;
+pub use view::FlatView;

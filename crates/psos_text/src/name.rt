@@ -8,7 +8,7 @@ use crate::finds::first_at;
 
 /// A name: one to sixteen bytes, each of `a` to `z`, `0` to `9`, `_` or `-`. It is a plain value of sixteen bytes,
 /// with zeros behind its text, and takes no memory. Two names are equal exactly where their texts are.
-#[derive(Clone, Copy, PartialEq, Eq, Debug)]
+#[derive(Clone, Copy, PartialEq, Eq, PartialOrd, Ord, Debug)]
 pub struct Name {
     bytes: [u8; 16],
 }
