@@ -1,0 +1,97 @@
+// Procedure records.
+ghost use Rattle.std.specs.Prelude.{◌≡◌, IfOk, IfErr, OnOk, OnErr, IsTrue, alloc_error};
+ghost use Rattle.std.specs.FinMap.{empty};
+ghost use Rattle.psos_calls.specs.Level13.{admitted, entered, act13, Can13};
+ghost use Rattle.psos_codes.specs.Rows.{adds_row};
+
+use psos_calls::{CodeRow, Kind, LevelAnswer, LevelCall, LevelFault, Refusal, Right};
+use psos_caps::{Cap, Rights};
+use psos_guards::{admits, has_bit};
+use psos_table::Table;
+use psos_words::Word;
+use std::alloc::{AllocError, Global};
+use std::marker::Model;
+
+/// The live procedure records by identifier (docs/levels.md, "Levels"). They are seen as a finite map.
+#[derive(Drop)]
+pub struct Codes {
+    records: Table<CodeRow>,
+}
+
+impl Model for Codes {
+    ghost use Rattle.std.specs.Coded.{coded_ℕ};
+    ghost use Rattle.std.specs.FinMap as map;
+    ghost use Rattle.psos_calls.specs.Level13.{CodeState};
+    ghost use Rattle.psos_calls.specs.contracts.code_row.CodeRow as code_row;
+
+    ghost Value = { CodeState };
+
+    ghost coded = { map.code coded_ℕ code_row.the_row.coded };
+
+    ghost view = { λ c. c.records };
+}
+
+// Whether a word may be the linkage of a record: a record is a store of guard 1.
+fn admit(word: Word) -> LevelAnswer
+    ensures { result ≡ admitted word }
+{
+    match admits(Rights::of(1), word) {
+        Ok(()) => LevelAnswer::Done,
+        Err(bit) => LevelAnswer::No(Refusal::Guarded(bit)),
+    }
+}
+
+impl Codes {
+    /// No procedure record. It takes no memory.
+    pub fn new(alloc: Global) -> Result<Codes, AllocError>
+        ensures { result ≡ Ok empty }
+    {
+        Ok(Codes {
+            records: Table::new(alloc),
+        })
+    }
+
+    // The record that a capability names, for one who may enter it.
+    fn enter(&self, cap: Cap) -> LevelAnswer
+        ensures { result ≡ entered self.now cap }
+    {
+        let Some(record) = self.records.get(cap.uid().0) else {
+            return LevelAnswer::No(Refusal::Absent(Kind::Code));
+        };
+        if !has_bit(cap.rights(), Right::Enter.bit()) {
+            return LevelAnswer::No(Refusal::Lacks(Right::Enter));
+        }
+        LevelAnswer::Entered {
+            label: record.label,
+            link: record.link,
+        }
+    }
+
+    /// Makes a call of level 13 (docs/levels.md, "Calls"): what it leaves and answers are those of `act13`. A refusal
+    /// is an answer, and changes nothing; so is `Done` to a call of another level. `Memory` is the one fault,
+    /// of `CodeMake` alone, and the level is then as it was.
+    pub fn act(&mut self, _alloc: Global, call: &LevelCall) -> Result<LevelAnswer, LevelFault>
+        requires { Can13 self.old call.now }
+        ensures state { OnOk result (self.new ≡ (act13 self.old call.now).0) }
+        ensures answer { IfOk result (λ a. a ≡ (act13 self.old call.now).1) }
+        ensures unchanged { OnErr result (self.new ≡ self.old) }
+        ensures memory { IfErr result (λ fault. fault ≡ LevelFault.Memory alloc_error) }
+        ensures adding { OnErr result (IsTrue (adds_row call.now)) }
+    {
+        match *call {
+            LevelCall::Admit { word } => Ok(admit(word)),
+            LevelCall::CodeMake { uid, label, link } => {
+                match self.records.put(uid.0, CodeRow { label, link }) {
+                    Ok(()) => Ok(LevelAnswer::Done),
+                    Err(error) => Err(LevelFault::Memory(error)),
+                }
+            }
+            LevelCall::Enter { cap } => Ok(self.enter(cap)),
+            LevelCall::CodeGone { uid } => {
+                self.records.remove(uid.0);
+                Ok(LevelAnswer::Done)
+            }
+            _ => Ok(LevelAnswer::Done),
+        }
+    }
+}

@@ -1,0 +1,80 @@
+// Directories.
+ghost use Rattle.std.specs.Prelude.{◌≡◌, IfOk, IfErr, OnOk, OnErr, IsTrue, alloc_error};
+ghost use Rattle.std.specs.FinMap.{empty};
+ghost use Rattle.psos_calls.specs.Level10.{dir_at, act10, Can10};
+ghost use Rattle.psos_dirs.specs.Rows.{adds_row};
+
+use psos_calls::{Kind, LevelAnswer, LevelCall, LevelFault, Refusal, Right};
+use psos_caps::{Cap, Rights};
+use psos_guards::has_bit;
+use psos_table::Table;
+use std::alloc::{AllocError, Global};
+use std::marker::Model;
+
+/// The live directories by identifier, each with its guard (docs/levels.md, "Levels"). They are seen as a finite map.
+#[derive(Drop)]
+pub struct Dirs {
+    guards: Table<Rights>,
+}
+
+impl Model for Dirs {
+    ghost use Rattle.std.specs.Coded.{coded_ℕ};
+    ghost use Rattle.std.specs.FinMap as map;
+    ghost use Rattle.psos_calls.specs.Level10.{DirState};
+    ghost use Rattle.psos_caps.specs.contracts.rights.Rights as rights;
+
+    ghost Value = { DirState };
+
+    ghost coded = { map.code coded_ℕ rights.the_row.coded };
+
+    ghost view = { λ d. d.guards };
+}
+
+impl Dirs {
+    /// No directory. It takes no memory.
+    pub fn new(alloc: Global) -> Result<Dirs, AllocError>
+        ensures { result ≡ Ok empty }
+    {
+        Ok(Dirs {
+            guards: Table::new(alloc),
+        })
+    }
+
+    // The guard of the directory that a capability names, for one who has the right on it.
+    fn at(&self, cap: Cap, right: Right) -> LevelAnswer
+        ensures { result ≡ dir_at self.now cap right }
+    {
+        let Some(guard) = self.guards.get(cap.uid().0) else {
+            return LevelAnswer::No(Refusal::Absent(Kind::Directory));
+        };
+        if !has_bit(cap.rights(), right.bit()) {
+            return LevelAnswer::No(Refusal::Lacks(right));
+        }
+        LevelAnswer::Guard(*guard)
+    }
+
+    /// Makes a call of level 10 (docs/levels.md, "Calls"): what it leaves and answers are those of `act10`. A refusal
+    /// is an answer, and changes nothing; so is `Done` to a call of another level. `Memory` is the one fault,
+    /// of `DirMake` alone, and the level is then as it was.
+    pub fn act(&mut self, _alloc: Global, call: &LevelCall) -> Result<LevelAnswer, LevelFault>
+        requires { Can10 self.old call.now }
+        ensures state { OnOk result (self.new ≡ (act10 self.old call.now).0) }
+        ensures answer { IfOk result (λ a. a ≡ (act10 self.old call.now).1) }
+        ensures unchanged { OnErr result (self.new ≡ self.old) }
+        ensures memory { IfErr result (λ fault. fault ≡ LevelFault.Memory alloc_error) }
+        ensures adding { OnErr result (IsTrue (adds_row call.now)) }
+    {
+        match *call {
+            LevelCall::DirAt { cap, right } => Ok(self.at(cap, right)),
+            LevelCall::DirMake { uid, guard } => match self.guards.put(uid.0, guard) {
+                Ok(()) => Ok(LevelAnswer::Done),
+                Err(error) => Err(LevelFault::Memory(error)),
+            },
+            LevelCall::DirGone { uid } => {
+                self.guards.remove(uid.0);
+                Ok(LevelAnswer::Done)
+            }
+            _ => Ok(LevelAnswer::Done),
+        }
+    }
+}

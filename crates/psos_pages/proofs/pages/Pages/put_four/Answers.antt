@@ -1,0 +1,10 @@
+use Rattle.std.proofs.Common.{◌/◌, ap, arith}
+use Rattle.psos_calls.specs.Level7.{place_in_slot, written}
+use Rattle.psos_pages.proofs.States.{there-here, changed-here}
+use Rattle.psos_pages.proofs.pages.Pages.put_four.Goals as goal
+
+pub index_mut-requires : goal.index_mut-requires
+index_mut-requires g c = omega (arith, there-here (ap (λ v. v.slots) c.self.view_is) c.self.invariant.1 (c.args.page / 8) c.requires.taken, c.self.inside.words.ok.0)
+
+pub returns-clause-slots : goal.returns-clause-slots
+returns-clause-slots g c = rw (c.put_four.ensures, c.place.ensures.place) (changed-here (ap (λ v. v.slots) c.self.view_is) c.self.invariant.1 (λ w. written w (place_in_slot c.args.page c.args.off) c.args.four.now) (c.args.page / 8) c.requires.taken c.index_mut.result.now c.index_mut.ensures.value)

@@ -1,0 +1,52 @@
+// The 512 words of a slot.
+ghost use Rattle.std.specs.Prelude.{◌≡◌, ◌≤◌, ◌+◌, ◌*◌, ◌<◌, take, drop, length};
+ghost use Rattle.psos_words.specs.Words.{zeros};
+ghost use Rattle.psos_calls.specs.Level7.{place_in_slot, written};
+
+use psos_words::{Page, Word};
+
+/// The words of the eight pages of a slot.
+pub type Words = [Word; 512];
+
+/// All words data 0.
+pub fn zero_words() -> Words
+    ensures { result ≡ zeros 512 }
+{
+    [Word::Data(0); 512]
+}
+
+/// Makes all words data 0, in their place.
+pub fn clear(words: &mut Words)
+    ensures { words.new ≡ zeros 512 }
+{
+    words.fill(Word::Data(0));
+}
+
+/// Where a word of a page lies among those of its slot.
+pub fn place(page: u16, off: u8) -> usize
+    requires { off < 64 }
+    ensures place { result ≡ place_in_slot page off }
+    ensures within { result ≤ 448 + off }
+{
+    (page % 8) as usize * 64 + off as usize
+}
+
+/// Writes four words from a place on, and changes no other.
+pub fn put_four(words: &mut Words, at: usize, four: &[Word; 4])
+    requires { at + 4 ≤ 512 }
+    ensures { words.new ≡ written words.old at four.now }
+{
+    words[at..at + 4].copy_from_slice(four);
+}
+
+/// The page whose words begin at a place.
+pub fn page_at(words: &Words, at: usize) -> Page
+    requires { at + 64 ≤ 512 }
+    ensures { result ≡ take 64 (drop at words.now) }
+{
+    let mut page = Page::zero();
+    'words: for i in 0u8..64 {
+        page.put(i, words[at + i as usize]);
+    }
+    page
+}

@@ -1,0 +1,27 @@
+-- The mailboxes of all users as the state of level 12. States docs/levels.md, "Levels" and "Locks", and docs/system.md, "Boot".
+use Rattle.std.specs.Prelude.{◌≡◌, ℕ, zero, suc, ◌+◌, ◌≤◌, List, [], ◌∷◌, length}
+use Rattle.std.specs.FinMap.{empty}
+use Rattle.psos_table.specs.Table.{put}
+use Rattle.psos_calls.specs.Level12.{BoxState}
+use Rattle.psos_procs.specs.Mailbox.{Mailbox, process_of}
+
+-- the table of mailboxes: under each process its words
+abbrev pub boxes_of : List Mailbox → BoxState
+boxes_of [] = empty
+boxes_of (box ∷ rest) = put (boxes_of rest) (process_of box.number) box.words
+
+-- an empty mailbox for each of n users, counted from i
+unfoldable pub no_words : ℕ → ℕ → BoxState
+no_words i zero = empty
+no_words i (suc n) = put (no_words (i + 1) n) (process_of i) []
+
+-- the mailboxes of so many users from number i on, in order, to the last
+abbrev pub AreBoxesFrom : ℕ → ℕ → List Mailbox → Type 0
+AreBoxesFrom users i [] = i ≡ users
+AreBoxesFrom users i (box ∷ rest) = (box.number ≡ i) × (box.users ≡ users) × (length box.words ≤ 8) × AreBoxesFrom users (i + 1) rest
+
+-- the mailboxes of one to eight users: all of them, in order
+pub record AreMailboxes (boxes : List Mailbox) : Type 0 where
+  pub some : 1 ≤ length boxes
+  pub few : length boxes ≤ 8
+  pub each : AreBoxesFrom (length boxes) 0 boxes

@@ -1,0 +1,10 @@
+//! Level 8: segments and windows (docs/levels.md, "Calls").
+#![tactic(auto)]
+
+mod over;
+mod segs;
+#[cfg(test)]
+mod tests;
+mod view;
+
+pub use segs::Segs;

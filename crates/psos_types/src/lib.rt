@@ -1,0 +1,9 @@
+//! Level 9: the live types, and the live objects and directories with their representations.
+#![tactic(auto)]
+
+mod by_type;
+#[cfg(test)]
+mod tests;
+mod types;
+
+pub use types::Types;
