@@ -1,0 +1,94 @@
+-- A search of words is a search of the slots that they are.
+use Rattle.std.proofs.Common.{◌≡◌, ℕ, ◌+◌, Bool, true, false, cond, List, [], ◌∷◌, Option, Some, None, refl, sym, ap, subst, ◌∙◌}
+use Rattle.std.specs.Prelude.{option_map}
+use Rattle.std.proofs.lemmas.Bool.{true≢false}
+use Rattle.std.proofs.lemmas.Option.{same_Some, none-some}
+use Rattle.psos_caps.specs.Capability.{Capability}
+use Rattle.psos_text.specs.declared.name.Name.{Name}
+use Rattle.psos_text.specs.Name.{IsName}
+use Rattle.psos_words.specs.declared.word.Word.{Word}
+use Rattle.psos_words.specs.declared.word.Word.TheVariants.{Data, Cap}
+use Rattle.psos_words.specs.Directory.{Slot, Never, Gone, Used, Found as SlotFound, mark_of, name_from, name_high, name_low, slots_of, same_name, are_never, are_in_order, found_here, find_from, free_from}
+use Rattle.psos_dirrep.specs.declared.found.Found.{Found}
+use Rattle.psos_dirrep.specs.declared.look.Look.TheVariants.{Pass, Here}
+use Rattle.psos_dirrep.specs.Entries.{as_found}
+use Rattle.psos_dirrep.specs.Scan.{looked, scanned, scan, scan_free, is_free}
+use Rattle.psos_dirrep.proofs.NameBytes.{name_of_halves}
+use Rattle.psos_dirrep.proofs.Slots.{by_slot, slots-split}
+
+-- ---- slots that were never used
+
+-- nothing is found among them
+pub never-find : (k : ℕ) (slots : List Slot) (name : Name) → are_never slots ≡ true → find_from k slots name ≡ None
+never-find k [] name e = refl
+never-find k (Never ∷ rest) name e = never-find (k + 1) rest name e
+never-find k (Gone ∷ rest) name e = absurd (true≢false (sym e))
+never-find k (Used x ∷ rest) name e = absurd (true≢false (sym e))
+
+-- they are in order
+pub never-in_order : (slots : List Slot) → are_never slots ≡ true → are_in_order slots ≡ true
+never-in_order [] e = refl
+never-in_order (Never ∷ rest) e = e
+never-in_order (Gone ∷ rest) e = absurd (true≢false (sym e))
+never-in_order (Used x ∷ rest) e = absurd (true≢false (sym e))
+
+-- what follows a slot in order is in order
+pub order-later : (slot : Slot) (later : List Slot) → are_in_order (slot ∷ later) ≡ true → are_in_order later ≡ true
+order-later Never later e = never-in_order later e
+order-later Gone later e = e
+order-later (Used x) later e = e
+
+-- ---- a name
+
+abbrev Agrees : ℕ → Name → List Word → List Slot → Type 0
+Agrees k name words slots = scan k (name_high name) (name_low name) words ≡ option_map as_found (find_from k slots name)
+
+used_slot_found : (k : ℕ) (name : Name) (h l : ℕ) (cap : Capability) (kept : Bool) (words : Option Found) (slots : Option SlotFound) → name_from (name_high name) (name_low name) ≡ name → words ≡ option_map as_found slots
+    → scanned k (looked (name_high name) (name_low name) (Data (mark_of kept)) (Data h) (Data l) (Cap cap)) words ≡ option_map as_found (found_here k name (Used (record { name = name_from h l; cap = cap; kept = kept })) slots)
+used_slot_found k name h l cap kept words slots is later =
+    by kept ∙ ap (λ (n : Name). scanned k (cond (same_name (name_from h l) n) (Here cap kept) Pass) words) is ∙ ends (same_name (name_from h l) name)
+  where
+    by : (b : Bool) → scanned k (looked (name_high name) (name_low name) (Data (mark_of b)) (Data h) (Data l) (Cap cap)) words ≡ scanned k (cond (same_name (name_from h l) (name_from (name_high name) (name_low name))) (Here cap b) Pass) words
+    by true = refl
+    by false = refl
+
+    ends : (t : Bool) → scanned k (cond t (Here cap kept) Pass) words ≡ option_map as_found (cond t (Some (record { slot = k; entry = record { name = name_from h l; cap = cap; kept = kept } })) slots)
+    ends true = refl
+    ends false = later
+
+-- the entry of a name by its words is that by its slots
+pub scan-find : (k : ℕ) (name : Name) (words : List Word) (slots : List Slot) → IsName name → slots_of words ≡ Some slots → are_in_order slots ≡ true → Agrees k name words slots
+unfolding slots_of
+scan-find k name [] slots named e order = subst (Agrees k name []) (same_Some _ _ e) refl
+scan-find k name (a ∷ []) slots named e order = absurd (none-some slots e)
+scan-find k name (a ∷ b ∷ []) slots named e order = absurd (none-some slots e)
+scan-find k name (a ∷ b ∷ c ∷ []) slots named e order = absurd (none-some slots e)
+scan-find k name (a ∷ b ∷ c ∷ d ∷ rest) slots named e order =
+    let s = slots-split a b c d rest slots e in
+    let in_order : are_in_order (s.slot ∷ s.later) ≡ true = subst (λ (l : List Slot). are_in_order l ≡ true) s.is order in
+    let later = scan-find (k + 1) name rest s.later named s.after (order-later s.slot s.later in_order) in
+    let P : Word → Word → Word → Word → Slot → Type 0 = λ a b c d slot. are_in_order (slot ∷ s.later) ≡ true → Agrees k name (a ∷ b ∷ c ∷ d ∷ rest) (slot ∷ s.later) in
+    subst (Agrees k name (a ∷ b ∷ c ∷ d ∷ rest)) (sym s.is) (by_slot P
+    (λ order. ap (option_map as_found) (sym (never-find (k + 1) s.later name order)))
+    (λ order. later)
+    (λ h l cap kept filled order. used_slot_found k name h l cap kept (scan (k + 1) (name_high name) (name_low name) rest) (find_from (k + 1) s.later name) (name_of_halves name named) later)
+    a b c d s.slot s.here in_order)
+
+-- ---- a place
+
+free_used : (k : ℕ) (kept : Bool) (x : Option ℕ) → cond (is_free (Data (mark_of kept))) (Some k) x ≡ x
+free_used k true x = refl
+free_used k false x = refl
+
+-- the least slot that is not used by its words is that by its slots
+pub scan-free : (k : ℕ) (words : List Word) (slots : List Slot) → slots_of words ≡ Some slots → scan_free k words ≡ free_from k slots
+unfolding slots_of
+scan-free k [] slots e = subst (λ (l : List Slot). None ≡ free_from k l) (same_Some _ _ e) refl
+scan-free k (a ∷ []) slots e = absurd (none-some slots e)
+scan-free k (a ∷ b ∷ []) slots e = absurd (none-some slots e)
+scan-free k (a ∷ b ∷ c ∷ []) slots e = absurd (none-some slots e)
+scan-free k (a ∷ b ∷ c ∷ d ∷ rest) slots e =
+    let s = slots-split a b c d rest slots e in
+    let later = scan-free (k + 1) rest s.later s.after in
+    let P : Word → Word → Word → Word → Slot → Type 0 = λ a b c d slot. scan_free k (a ∷ b ∷ c ∷ d ∷ rest) ≡ free_from k (slot ∷ s.later) in
+    subst (λ (l : List Slot). scan_free k (a ∷ b ∷ c ∷ d ∷ rest) ≡ free_from k l) (sym s.is) (by_slot P refl refl (λ h l cap kept filled. free_used k kept (scan_free (k + 1) rest) ∙ later) a b c d s.slot s.here)

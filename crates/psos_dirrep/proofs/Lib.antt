@@ -1,0 +1,16 @@
+pub mod Finds
+pub mod NameBytes
+pub mod NameHalves
+pub mod Scans
+pub mod Slots
+pub mod Changed
+pub mod Directories
+pub mod PageSlots
+pub mod Rules
+pub mod PageLaws
+pub mod SlotSteps
+pub mod ListSteps
+pub mod DecodeTests
+pub mod WholeSearch
+pub mod Gets
+pub mod NeverUsed

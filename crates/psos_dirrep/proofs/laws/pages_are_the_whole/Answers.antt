@@ -1,0 +1,11 @@
+use Rattle.psos_dirrep.proofs.PageLaws.{pages-names, pages-places, pages-slots}
+use Rattle.psos_dirrep.proofs.laws.pages_are_the_whole.Goals as goal
+
+pub returns-clause-names : goal.returns-clause-names
+returns-clause-names c = pages-names
+
+pub returns-clause-places : goal.returns-clause-places
+returns-clause-places c = pages-places
+
+pub returns-clause-each : goal.returns-clause-each
+returns-clause-each c = pages-slots

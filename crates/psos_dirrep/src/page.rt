@@ -1,0 +1,93 @@
+// One page of a directory.
+ghost use Rattle.std.specs.Prelude.{◌≡◌, ◌<◌, option_map, IfSome};
+ghost use Rattle.psos_text.specs.Name.{IsName};
+ghost use Rattle.psos_words.specs.Directory.{has_never, find, slot_for};
+ghost use Rattle.psos_dirrep.specs.Entries.{as_found};
+ghost use Rattle.psos_dirrep.specs.Pages.{slots_in, AreSlots};
+ghost use Rattle.psos_dirrep.specs.Scan.{scan, scan_free, is_free, is_never};
+
+use crate::Found;
+use crate::halves::halves;
+use crate::look::{Look, look_in, word};
+use psos_text::Name;
+use psos_words::{Page, Word};
+
+/// Whether a page has a slot that was never used. No page after the first such page is to be read (docs/levels.md,
+/// "Directories in words").
+pub fn has_never(page: &Page) -> bool
+    ensures { result ≡ has_never page.now }
+{
+    'slots: for k in 0..16u8 {
+        if is_never(word(page, 4 * k)) {
+            return true;
+        }
+    }
+    false
+}
+
+/// The entry of a name on one page of a directory, with its slot on this page, from 0 to 15. None exactly where no
+/// entry on the page has the name. It stops at the first slot that was never used.
+pub fn find_on(page: &Page, name: &Name) -> Option<Found>
+    requires { IsName name.now }
+    ensures found { AreSlots page.now → result ≡ option_map as_found (find (slots_in page.now) name.now) }
+    ensures small { IfSome result (λ found. found.slot < 16) }
+{
+    let (high, low) = halves(name);
+    scan(page, high, low)
+}
+
+/// The least slot of one page of a directory that is not used, from 0 to 15. None exactly where all 16 are used.
+pub fn free_on(page: &Page) -> Option<u8>
+    ensures place { AreSlots page.now → result ≡ slot_for (slots_in page.now) }
+    ensures small { IfSome result (λ k. k < 16) }
+{
+    scan_free(page)
+}
+
+// The entry of the name with these two numbers.
+pub(crate) fn scan(page: &Page, high: u64, low: u64) -> Option<Found>
+    ensures found { result ≡ scan 0 high low page.now }
+    ensures small { IfSome result (λ found. found.slot < 16) }
+{
+    'slots: for k in 0..16u8 {
+        match look_in(page, k, high, low) {
+            Look::Stop => return None,
+            Look::Pass => {}
+            Look::Here { cap, kept } => return Some(Found { slot: k, cap, kept }),
+        }
+    }
+    None
+}
+
+// The least slot whose first word says that it is not used.
+pub(crate) fn scan_free(page: &Page) -> Option<u8>
+    ensures place { result ≡ scan_free 0 page.now }
+    ensures small { IfSome result (λ k. k < 16) }
+{
+    'slots: for k in 0..16u8 {
+        if is_free(word(page, 4 * k)) {
+            return Some(k);
+        }
+    }
+    None
+}
+
+// Whether this first word is that of a slot that was never used.
+pub(crate) fn is_never(first: Word) -> bool
+    ensures { result ≡ is_never first }
+{
+    match first {
+        Word::Data(mark) => mark == 0,
+        Word::Cap(_) => false,
+    }
+}
+
+// Whether this first word is that of a slot that is not used.
+fn is_free(first: Word) -> bool
+    ensures { result ≡ is_free first }
+{
+    match first {
+        Word::Data(mark) => mark == 0 || mark == 3,
+        Word::Cap(_) => false,
+    }
+}
