@@ -1,5 +1,5 @@
 -- The history of a run, the last request first, and the origins that it gives. States docs/promises.md, "Origins".
-use Rattle.std.specs.Prelude.{◌≡◌, ℕ, ◌==◌, if◌then◌else◌, nat_le, List, [], ◌∷◌, length, slice_get, Option, Some, None}
+use Rattle.std.specs.Prelude.{◌≡◌, ◌≤◌, ℕ, ◌==◌, if◌then◌else◌, nat_le, List, [], ◌∷◌, length, slice_get, Option, Some, None}
 use Rattle.std.specs.Option.{option_map}
 use Rattle.psos_caps.specs.Capability.{Capability}
 use Rattle.psos_calls.specs.declared.request.Request.{Request}
@@ -73,11 +73,12 @@ origin past f p = option_map (origin_of past p) (cap_at f p)
 
 -- ---- sound origins
 
--- a copy is one that the request's user could make then
+-- a copy is one that the request's user could make then, what was made was new then, and what was there at boot has no stamp
 abbrev pub IsSoundWay : List Event → Capability → Option ℕ → Way → Type 0
 IsSoundWay past cap (Some t) (Copied q by) = (e : Event) × (entry_at past t ≡ Some e) × IsCopy e.flat e.user cap q by
-IsSoundWay past cap None (Copied q by) = ⊥
-IsSoundWay past cap t _ = Unit {0}
+IsSoundWay past cap (Some t) Made = (e : Event) × (entry_at past t ≡ Some e) × (e.flat.next ≤ cap.uid)
+IsSoundWay past cap None Boot = Unit {0}
+IsSoundWay past cap _ _ = ⊥
 
 -- each capability has a sound origin
 abbrev pub AreSoundOrigins : List Event → Flat → Type 0

@@ -1,5 +1,5 @@
 -- What an answer puts where, and from where. States docs/promises.md, "Origins".
-use Rattle.std.specs.Prelude.{ℕ, ◌+◌, ◌==◌, Bool, if◌then◌else◌, nat_le, List, [], ◌∷◌, ◌++◌, length, Option, Some, None}
+use Rattle.std.specs.Prelude.{◌≡◌, ◌<◌, ◌⊎◌, IsSome, slice_get, ℕ, ◌+◌, ◌==◌, Bool, if◌then◌else◌, nat_le, List, [], ◌∷◌, ◌++◌, length, Option, Some, None}
 use Rattle.psos_table.specs.Table.{at}
 use Rattle.psos_caps.specs.Capability.{Capability, full}
 use Rattle.psos_words.specs.declared.word.Word.{Word}
@@ -15,8 +15,8 @@ use Rattle.psos_calls.specs.Plan.{uid}
 use Rattle.psos_calls.specs.Tests.{if_there}
 use Rattle.psos_model.specs.declared.place.Place.{Place}
 use Rattle.psos_model.specs.declared.place.Place.TheVariants.{Reg, FrameReg, PathAt, SegWord, DirName, BoxAt, Link, ImplOf}
-use Rattle.psos_model.specs.Flat.{Flat}
-use Rattle.psos_model.specs.Places.{same_place, reg_place, cap_in}
+use Rattle.psos_model.specs.Flat.{Flat, Segment, Directory, named}
+use Rattle.psos_model.specs.Places.{same_place, reg_place, cap_in, frame_at}
 use Rattle.psos_model.specs.declared.change.Change.{Change}
 use Rattle.psos_model.specs.declared.change.Change.TheVariants.{PutWord, Bind, Register, Post, Draw, MakeObject, MakeDirectory, MakeCode}
 use Rattle.psos_model.specs.Changes.{changed}
@@ -113,3 +113,23 @@ before (c ∷ rest) p = before_change c (before rest p)
 abbrev pub landed : List Landing → Place → Option Capability → Option Capability
 landed [] p old = old
 landed (l ∷ rest) p old = if same_place p l.place then cap_in l.word else landed rest p old
+
+-- ---- places that are there
+
+-- a register, or a directory of the name space, of a user's own part
+abbrev pub IsOwnThere : User → Place → Type 0
+IsOwnThere x (Reg u i) = i < length x.regs
+IsOwnThere x (FrameReg u depth i) = (q : Frame) × (frame_at x.frames depth ≡ Some q) × (i < length q.regs)
+IsOwnThere x (PathAt u i) = i < length x.path
+IsOwnThere x _ = ⊥
+
+-- what the place belongs to is there, and has that place
+abbrev pub IsThere : Flat → Place → Type 0
+IsThere f (Reg u i) = (x : User) × (slice_get f.users u ≡ Some x) × IsOwnThere x (Reg u i)
+IsThere f (FrameReg u depth i) = (x : User) × (slice_get f.users u ≡ Some x) × IsOwnThere x (FrameReg u depth i)
+IsThere f (PathAt u i) = (x : User) × (slice_get f.users u ≡ Some x) × IsOwnThere x (PathAt u i)
+IsThere f (SegWord uid i) = (s : Segment) × (at f.segments uid.0 ≡ Some s) × (i < length s.words)
+IsThere f (DirName uid name) = (d : Directory) × (at f.dirs uid.0 ≡ Some d) × IsSome (named d name)
+IsThere f (BoxAt uid i) = (box : List Word) × (at f.boxes uid.0 ≡ Some box) × (i < length box)
+IsThere f (Link uid) = IsSome (at f.codes uid.0)
+IsThere f (ImplOf uid) = IsSome (at f.objects uid.0) ⊎ IsSome (at f.dirs uid.0)

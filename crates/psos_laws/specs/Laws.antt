@@ -5,13 +5,13 @@ use Rattle.psos_words.specs.declared.word.Word.TheVariants.{Cap}
 use Rattle.psos_calls.specs.Script.{Script, IsWellFormed}
 use Rattle.psos_model.specs.declared.place.Place.{Place}
 use Rattle.psos_model.specs.Flat.{Flat}
-use Rattle.psos_model.specs.Places.{cap_at}
+use Rattle.psos_model.specs.Places.{cap_in, cap_at}
 use Rattle.psos_model.specs.Answer.{answer}
 use Rattle.psos_model.specs.Boot.{boot}
 use Rattle.psos_model.specs.Run.{IsLegalFrom, run}
 use Rattle.psos_model.specs.Guarded.{IsGuarded}
 use Rattle.psos_model.specs.Sound.{IsSound}
-use Rattle.psos_laws.specs.Landings.{Landing, landed}
+use Rattle.psos_laws.specs.Landings.{Landing, found, landed, IsThere}
 use Rattle.psos_laws.specs.History.{Event, event_at, history, AreSoundOrigins}
 use Rattle.psos_laws.specs.Trails.{IsHeldBack, IsConfined}
 use Rattle.psos_laws.specs.Sealed.{IsSealed}
@@ -40,3 +40,8 @@ LandingsAreAll = (s : Script) (f : Flat) (u : ℕ) (p : Place) (cap : Capability
 abbrev pub UnreadIsNew : Type 0
 UnreadIsNew = (s : Script) (f : Flat) (u i : ℕ) (l : Landing) (cap : Capability) → IsWellFormed s → IsSound s f
     → slice_get (event_at s f u).landings i ≡ Some l → l.word ≡ Cap cap → l.source ≡ None → f.next ≤ cap.uid
+
+-- what landed last at a place is there after an answer, if the place is
+abbrev pub LandingsStay : Type 0
+LandingsStay = (s : Script) (f : Flat) (u : ℕ) (p : Place) (l : Landing) → IsWellFormed s → IsSound s f
+    → found (event_at s f u).landings p ≡ Some l → IsThere (answer s f u).0 p → cap_at (answer s f u).0 p ≡ cap_in l.word

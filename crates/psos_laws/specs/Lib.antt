@@ -4,3 +4,5 @@ pub mod History
 pub mod Trails
 pub mod Sealed
 pub mod Laws
+pub mod SoundParts
+pub mod Watched

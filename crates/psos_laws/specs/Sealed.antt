@@ -1,5 +1,5 @@
 -- Representations are reached through the manager of their type. States docs/promises.md, "Guarded, kept, sealed".
-use Rattle.std.specs.Prelude.{◌≡◌, ◌≢◌, ◌≤◌, ◌⊎◌, ℕ, List, [], ◌∷◌, Option, Some, None}
+use Rattle.std.specs.Prelude.{◌≡◌, ◌≢◌, ◌⊎◌, ℕ, List, [], ◌∷◌, Option, Some, None}
 use Rattle.psos_table.specs.Table.{at}
 use Rattle.psos_caps.specs.Capability.{Capability}
 use Rattle.psos_calls.specs.declared.right.Right.TheVariants.{Impl}

@@ -4,8 +4,25 @@
 //! which place its user had it.
 #![tactic(auto)]
 
+mod orders;
 mod origin;
+mod places;
+mod sound;
+mod starts;
+#[cfg(test)]
+mod tests;
+mod watched;
 mod way;
 
+pub use orders::{complete_orders_have_all, orders_end};
 pub use origin::Origin;
+pub use places::{
+    confined_stays, confined_stays_once, landings_are_all, landings_stay, legal_runs_are_lawful,
+    places_stay_sound, unread_is_new,
+};
+pub use sound::{
+    answers_keep_sound, runs_from_boot_are_sound, runs_keep_sound, shared_stays_sound, sound_stays,
+};
+pub use starts::{boot_is_start, sound_can_step, users_stay_sound};
+pub use watched::Watched;
 pub use way::Way;

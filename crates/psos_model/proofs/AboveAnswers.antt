@@ -24,12 +24,12 @@ record IsIdle (o : Outcome) : Type 0 where
   changes : (why : Refusal) → o.reply ≡ replies.No why → o.changes ≡ []
   effect : (why : Refusal) → o.reply ≡ replies.No why → o.effect ≡ Nothing
 
-no_refusal : (o : Outcome) → IsDone o → (why : Refusal) → o.reply ≡ replies.No why → ⊥
-no_refusal o d why e = subst (λ b. cond b ⊥ ⊤) (sym (ap is_kind e) ∙ d.reply) tt
+no_refusal : (f : Flat) (x : User) (o : Outcome) → IsDone f x o → (why : Refusal) → o.reply ≡ replies.No why → ⊥
+no_refusal f x o d why e = subst (λ b. cond b ⊥ ⊤) (sym (ap is_kind e) ∙ d.reply) tt
 
 idle : (f : Flat) (x : User) (r : Request) → IsIdle (outcome f x r)
-idle f x r = by_outcome IsIdle (λ r. record { changes = λ why e. refl; effect = λ why e. refl })
-    (λ o d. record { changes = λ why e. absurd (no_refusal o d why e); effect = λ why e. absurd (no_refusal o d why e) }) f x r
+idle f x r = by_outcome f x IsIdle (λ r. record { changes = λ why e. refl; effect = λ why e. refl })
+    (λ o d. record { changes = λ why e. absurd (no_refusal f x o d why e); effect = λ why e. absurd (no_refusal f x o d why e) }) r
 
 pub no_changes : (f : Flat) (x : User) (r : Request) (why : Refusal) → (outcome f x r).reply ≡ replies.No why → (outcome f x r).changes ≡ []
 no_changes f x r = (idle f x r).changes
@@ -65,7 +65,7 @@ next_after f [] = omega arith
 next_after f (c ∷ rest) = omega (arith, next_after (changed f c) rest, next_is f c)
 
 pub uses_few : (f : Flat) (x : User) (r : Request) → used_by (outcome f x r).changes ≤ 2
-uses_few f x r = by_outcome (λ o. used_by o.changes ≤ 2) (λ r. omega arith) (λ o d. d.few) f x r
+uses_few f x r = by_outcome f x (λ o. used_by o.changes ≤ 2) (λ r. omega arith) (λ o d. d.few) r
 
 -- the next identifier after an answer
 record RisesByTwo (before after : ℕ) : Type 0 where

@@ -12,16 +12,16 @@ use Rattle.psos_calls.specs.User.{User, next_request, next_in, CanCount}
 use Rattle.psos_model.specs.CanStep.{HasRoom}
 
 module _ {X : Type 0} where
-  all_map : (P Q : X → Type 0) → ((x : X) → P x → Q x) → (xs : List X) → AllByRecursion P xs → AllByRecursion Q xs
+  pub all_map : (P Q : X → Type 0) → ((x : X) → P x → Q x) → (xs : List X) → AllByRecursion P xs → AllByRecursion Q xs
   all_map P Q h [] a = a
   all_map P Q h (x ∷ xs) a = (h x a.0, all_map P Q h xs a.1)
 
-  all_get : (P : X → Type 0) (xs : List X) (i : ℕ) (x : X) → AllByRecursion P xs → slice_get xs i ≡ Some x → P x
+  pub all_get : (P : X → Type 0) (xs : List X) (i : ℕ) (x : X) → AllByRecursion P xs → slice_get xs i ≡ Some x → P x
   all_get P [] i x a e = absurd (none-some x e)
   all_get P (y ∷ ys) zero x a e = subst P (same_Some y x e) a.0
   all_get P (y ∷ ys) (suc i) x a e = all_get P ys i x a.1 e
 
-  all_index : (P : X → Type 0) (xs : List X) (i : ℕ) (d : X) → AllByRecursion P xs → P d → P (slice_index_or xs i d)
+  pub all_index : (P : X → Type 0) (xs : List X) (i : ℕ) (d : X) → AllByRecursion P xs → P d → P (slice_index_or xs i d)
   all_index P [] i d a p = p
   all_index P (x ∷ xs) zero d a p = a.0
   all_index P (x ∷ xs) (suc i) d a p = all_index P xs i d a.1 p
@@ -35,7 +35,7 @@ module _ {X : Type 0} where
   all_flat P (p ∷ ps) a = all_append P p (flat_map (λ p. p) ps) a.0 (all_flat P ps a.1)
 
   -- a place that has an element lies within the list
-  got_within : (xs : List X) (i : ℕ) (x : X) → slice_get xs i ≡ Some x → i < length xs
+  pub got_within : (xs : List X) (i : ℕ) (x : X) → slice_get xs i ≡ Some x → i < length xs
   got_within [] i x e = absurd (none-some x e)
   got_within (y ∷ ys) zero x e = omega arith
   got_within (y ∷ ys) (suc i) x e = omega (arith, got_within ys i x e)
@@ -48,7 +48,7 @@ requests_fit s w u =
     all_index (λ (x : UserScript). AllByRecursion P (requests_of x)) s.users u (record { name = []; phases = [] })
     (all_map (IsUserScript (length s.codes)) (λ (x : UserScript). AllByRecursion P (requests_of x)) (λ x is. all_flat P x.phases is.in_range) s.users w.users) tt
 
-body_fits : (s : Script) → IsWellFormed s → (label : ℕ) → AllByRecursion (InRange (length s.codes)) (body_of s label) × (length (body_of s label) ≤ 16)
+pub body_fits : (s : Script) → IsWellFormed s → (label : ℕ) → AllByRecursion (InRange (length s.codes)) (body_of s label) × (length (body_of s label) ≤ 16)
 body_fits s w label =
     let P = InRange (length s.codes) in
     let Q : CodeBlock → Type 0 = λ code. AllByRecursion P code.body × (length code.body ≤ 16) in
@@ -87,18 +87,22 @@ more n few (Call rp) h = h
 more n few (Path rs) h = h
 more n few (Find rd name) h = h
 
--- every request that comes next has its operands in range
+-- every request that comes next has its operands in range, and labels are blocks of the script
+pub asked_in_range : (s : Script) → IsWellFormed s → (x : User) (r : Request) → next_request s x ≡ Some r → InRange (length s.codes) r
+asked_in_range s w x r e = fits_in_frames s w x x.frames r e
+
+-- and so it is where the script has as many blocks as it may
 pub in_range : (s : Script) → IsWellFormed s → (x : User) (r : Request) → next_request s x ≡ Some r → InRange 64 r
 in_range s w x r e = more (length s.codes) w.few_codes r (fits_in_frames s w x x.frames r e)
 
 -- ---- counts
 
-count_in : (s : Script) → IsWellFormed s → (x : User) → HasRoom x → (frames : List Frame) (r : Request) → next_in s x frames ≡ Some r → CanCount x frames
-count_in s w x room [] r e = room.answered
-count_in s w x room (q ∷ outer) r e =
+count_in : (s : Script) → IsWellFormed s → (x : User) (frames : List Frame) → HasRoom x frames → (r : Request) → next_in s x frames ≡ Some r → CanCount x frames
+count_in s w x [] room r e = room
+count_in s w x (q ∷ outer) room r e =
     let line = got_within (body_of s q.label) q.line r e in
-    (room.within, omega (arith, line, (body_fits s w q.label).1))
+    (room, omega (arith, line, (body_fits s w q.label).1))
 
 -- the count of the request that comes next has room
-pub can_count : (s : Script) → IsWellFormed s → (x : User) → HasRoom x → (r : Request) → next_request s x ≡ Some r → CanCount x x.frames
-can_count s w x room r e = count_in s w x room x.frames r e
+pub can_count : (s : Script) → IsWellFormed s → (x : User) → HasRoom x x.frames → (r : Request) → next_request s x ≡ Some r → CanCount x x.frames
+can_count s w x room r e = count_in s w x x.frames room r e

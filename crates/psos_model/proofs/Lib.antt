@@ -1,4 +1,4 @@
-pub mod Agreeing
+pub mod Recorded
 pub mod NameOrder
 pub mod TakenBack
 pub mod Told
@@ -9,3 +9,4 @@ pub mod Asked
 pub mod Found
 pub mod AnyKept
 pub mod Stepped
+pub mod BootRows

@@ -25,7 +25,7 @@ pub still_there : (f a : Flat) (o : Outcome) (u : ℕ) (x : User) → a ≡ chan
 still_there f a o u x made there = ap (λ (g : Flat). slice_get g.users u) made ∙ (ap (λ us. slice_get us u) (users_stay f o.changes) ∙ there)
 
 -- and its part can be settled
-pub can_settle : (s : Script) → IsWellFormed s → (users : List User) (o : Outcome) (u : ℕ) (x : User) (r : Request) → slice_get users u ≡ Some x → HasRoom x → next_request s x ≡ Some r → CanMake x o.effect
+pub can_settle : (s : Script) → IsWellFormed s → (users : List User) (o : Outcome) (u : ℕ) (x : User) (r : Request) → slice_get users u ≡ Some x → HasRoom x x.frames → next_request s x ≡ Some r → CanMake x o.effect
     → IfSome (slice_get users u) (λ x. CanSettle x o.effect)
 can_settle s w users o u x r there room asks fits =
     subst (λ (p : Option User). IfSome p (λ x. CanSettle x o.effect)) (sym there) (record { count = can_count s w x room r asks; make = fits })

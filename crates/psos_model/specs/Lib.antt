@@ -23,7 +23,6 @@ pub mod Output
 pub mod Operands
 pub mod RequestWords
 pub mod Spelling
-pub mod Agreement
 pub mod Guarded
 pub mod Kept
 pub mod Roles

@@ -3,7 +3,7 @@ use Rattle.std.specs.Prelude.{◌≡◌, ℕ, ◌+◌, ◌≤◌, Bool, true, �
 use Rattle.std.specs.List.{flat_map, list_all, AllByRecursion}
 use Rattle.psos_text.specs.Lines.{lines_of, words_of}
 use Rattle.psos_calls.specs.declared.request.Request.{Request}
-use Rattle.psos_calls.specs.declared.request.Request.TheVariants.{Mint, Restrict, Set, Move, Add}
+use Rattle.psos_calls.specs.declared.request.Request.TheVariants.{Mint, Restrict, Set, Move, Add, Read, Write, Window, Length}
 use Rattle.psos_calls.specs.Request.{InRange}
 use Rattle.psos_calls.specs.Script.{UserScript, CodeBlock, Script, IsWellFormed}
 use Rattle.psos_model.specs.Operands.{Text}
@@ -66,6 +66,10 @@ IsBuiltRequest (Restrict rd rs keep) = Unit {0}
 IsBuiltRequest (Set rd n) = Unit {0}
 IsBuiltRequest (Move rd rs) = Unit {0}
 IsBuiltRequest (Add rd ra rb) = Unit {0}
+IsBuiltRequest (Read rd rs n) = Unit {0}
+IsBuiltRequest (Write rs n rv) = Unit {0}
+IsBuiltRequest (Window rd rs base len) = Unit {0}
+IsBuiltRequest (Length rd rs) = Unit {0}
 IsBuiltRequest _ = ⊥
 
 abbrev pub IsBuiltUser : UserScript → Type 0

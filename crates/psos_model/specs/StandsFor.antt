@@ -64,10 +64,3 @@ pub record StandsFor (y : System) (f : Flat) : Type 0 where
   -- the words of the flat segments, and the entries of the directories
   pub words : (u : ℕ) (s : Segment) → at f.segments u ≡ Some s → (i : ℕ) → i < length s.words → word_at (stored y u) i ≡ word_at s.words i
   pub entries : (u : ℕ) (d : Directory) → at f.dirs u ≡ Some d → HoldsEntries (stored y d.rep) d
-
--- ---- what is proved of it today
-
--- the next identifier and the users' own parts are the same
-pub record StandsInPart (y : System) (f : Flat) : Type 0 where
-  pub next : y.levels.next ≡ f.next
-  pub users : y.users ≡ f.users

@@ -7,10 +7,6 @@ ghost use Rattle.psos_calls.specs.declared.effect.Effect.TheVariants.{Nothing};
 ghost use Rattle.psos_calls.specs.Script.{Script};
 ghost use Rattle.psos_calls.specs.User.{User};
 ghost use Rattle.psos_model.specs.Flat.{Flat};
-ghost use Rattle.psos_model.specs.Boot.{boot};
-ghost use Rattle.psos_model.specs.Replay.{boot_system};
-ghost use Rattle.psos_model.specs.StandsFor.{StandsInPart};
-ghost use Rattle.psos_model.specs.Agreement.{RequestsAgree, RunsAgree};
 ghost use Rattle.psos_model.specs.Answer.{outcome, answer};
 
 /// A refusal changes nothing that users share, and makes no change to its user's own part but the count.
@@ -28,20 +24,4 @@ pub fn next_rises_by_two()
 /// A request changes the own part of no user but the one that made it.
 pub fn others_stay()
     ensures { (s : Script) (f : Flat) (u v : ℕ) → v ≢ u → slice_get (answer s f u).0.users v ≡ slice_get f.users v }
-{}
-
-/// The levels at boot and the flat state of boot have the same next identifier and the same users' own parts.
-pub fn boot_stands()
-    ensures { (s : Script) → StandsInPart (boot_system s) (boot s) }
-{}
-
-/// Where these are the same, the plan of a user's next request gives the reply of the flat answer, and they are the
-/// same after it. Of requests that are built.
-pub fn requests_agree()
-    ensures { RequestsAgree }
-{}
-
-/// The same for any order of users, from any such states.
-pub fn runs_agree()
-    ensures { RunsAgree }
 {}

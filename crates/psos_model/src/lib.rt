@@ -37,9 +37,7 @@ pub use change::Change;
 pub use change_list::ChangeList;
 pub use directory::Directory;
 pub use flat::Flat;
-pub use laws::{
-    boot_stands, next_rises_by_two, others_stay, refusals_do_nothing, requests_agree, runs_agree,
-};
+pub use laws::{next_rises_by_two, others_stay, refusals_do_nothing};
 pub use mailbox::Mailbox;
 pub use named::Named;
 pub use names_table::NamesTable;

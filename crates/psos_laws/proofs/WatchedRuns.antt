@@ -1,0 +1,106 @@
+-- A legal run with one request more. States docs/promises.md, "Runs".
+use Rattle.std.proofs.Common.{◌≡◌, ℕ, ◌+◌, ◌*◌, ◌≤◌, List, [], ◌∷◌, ◌++◌, length, refl, sym, ap, subst, ◌∙◌, arith}
+use Rattle.std.specs.Prelude.{IsTrue}
+use Rattle.psos_text.specs.declared.name.Name.{Name}
+use Rattle.psos_calls.specs.Script.{Script, IsWellFormed}
+use Rattle.psos_model.specs.Flat.{Flat}
+use Rattle.psos_model.specs.Answer.{answer}
+use Rattle.psos_model.specs.Boot.{boot}
+use Rattle.psos_model.specs.CanStep.{CanStep}
+use Rattle.psos_model.specs.Kept.{IsKept}
+use Rattle.psos_model.specs.Run.{IsLegalFrom, run_from, run, has_left}
+use Rattle.psos_model.specs.Sound.{IsSound}
+use Rattle.psos_model.proofs.AboveAnswers.{at_most_two}
+use Rattle.psos_laws.specs.History.{history}
+use Rattle.psos_laws.specs.Trails.{IsConfined}
+use Rattle.psos_laws.specs.Laws.{IsLawful}
+use Rattle.psos_laws.proofs.BootSound.{boot_start}
+use Rattle.psos_laws.proofs.OrdersEnd.{orders_end}
+use Rattle.psos_laws.proofs.PlacesLaws.{run_append, confined_stays_once}
+use Rattle.psos_laws.proofs.PlacesRuns.{legal_runs_are_lawful}
+use Rattle.psos_laws.proofs.SharedSound.{runs_kept}
+use Rattle.psos_laws.proofs.UsersStep.{can_step}
+
+-- ---- one request more
+
+legal_from : (s : Script) (order : List ℕ) (u : ℕ) (f : Flat) → IsLegalFrom s f order → IsTrue (has_left s (run_from s f order).users u) → IsLegalFrom s f (order ++ u ∷ [])
+legal_from s [] u f legal left = (left, tt)
+legal_from s (v ∷ vs) u f legal left = (legal.0, legal_from s vs u (answer s f v).0 legal.1 left)
+
+-- each request uses two identifiers at most
+next_most : (s : Script) (order : List ℕ) (f : Flat) → (run_from s f order).next ≤ f.next + 2 * length order
+next_most s [] f = omega arith
+next_most s (u ∷ us) f =
+    let rest = next_most s us (answer s f u).0 in
+    let few = at_most_two s f u in
+    omega (arith, rest, few)
+
+-- ---- the state of a legal order of a well-formed script
+
+-- t is the script, and f the state after the order
+pub record IsRun (s t : Script) (order : List ℕ) (f : Flat) : Type 0 where
+  pub formed : IsWellFormed s
+  pub legal : IsLegalFrom s (boot s) order
+  pub state : f ≡ run s order
+  pub script : s ≡ t
+
+-- what holds of it
+pub record AreLaws (t : Script) (order : List ℕ) (f : Flat) : Type 0 where
+  pub formed : IsWellFormed t
+  pub legal : IsLegalFrom t (boot t) order
+  pub state : f ≡ run t order
+  pub sound : IsSound t f
+  pub lawful : IsLawful (history t order) f
+
+laws_by : (t : Script) (order : List ℕ) → IsWellFormed t → IsLegalFrom t (boot t) order → (f : Flat) → f ≡ run t order → AreLaws t order f
+laws_by t order formed legal f state = record {
+  formed = formed;
+  legal = legal;
+  state = state;
+  sound = subst (IsSound t) (sym state) (runs_kept t (boot t) order formed (boot_start t formed).sound);
+  lawful = subst (IsLawful (history t order)) (sym state) (legal_runs_are_lawful t order formed legal);
+}
+
+pub laws_of : (s t : Script) (order : List ℕ) (f : Flat) → IsRun s t order f → AreLaws t order f
+laws_of s t order f h = subst P h.script (λ formed legal state. laws_by s order formed legal f state) h.formed h.legal h.state
+  where
+    P : Script → Type 0
+    P x = IsWellFormed s → IsLegalFrom s (boot s) order → f ≡ run s order → AreLaws x order f
+
+-- and of the script that boot took
+pub laws_back : (s t : Script) (order : List ℕ) (f : Flat) → s ≡ t → AreLaws t order f → AreLaws s order f
+laws_back s t order f script h = subst (λ x. AreLaws x order f) (sym script) h
+
+-- the same state, told otherwise
+pub laws_same : (t : Script) (order later : List ℕ) (f g : Flat) → later ≡ order → g ≡ f → AreLaws t order f → AreLaws t later g
+laws_same t order later f g orders states h = subst (λ o. AreLaws t o g) (sym orders) (subst (AreLaws t order) (sym states) h)
+
+-- the state after one request more
+pub laws_more : (t : Script) (order later : List ℕ) (f g : Flat) (u : ℕ) → IsTrue (has_left t f.users u) → later ≡ order ++ u ∷ [] → g ≡ (answer t f u).0
+    → AreLaws t order f → AreLaws t later g
+laws_more t order later f g u left orders states h =
+    let here : IsTrue (has_left t (run t order).users u) = subst (λ (x : Flat). IsTrue (has_left t x.users u)) h.state left in
+    let after : g ≡ run t (order ++ u ∷ []) = states ∙ (ap (λ x. (answer t x u).0) h.state ∙ sym (run_append t order (u ∷ []) (boot t))) in
+    laws_same t (order ++ u ∷ []) later g g orders refl (laws_by t (order ++ u ∷ []) h.formed (legal_from t order u (boot t) h.legal here) g after)
+
+-- so many requests at most were answered
+pub laws_few : (t : Script) (order : List ℕ) (f : Flat) → AreLaws t order f → length order ≤ 32768
+laws_few t order f h = orders_end t (boot t) order h.formed (boot_start t h.formed) h.legal
+
+-- whoever has a request left can be answered
+pub laws_step : (t : Script) (order : List ℕ) (f : Flat) (u : ℕ) → IsTrue (has_left t f.users u) → AreLaws t order f → CanStep f u
+laws_step t order f u left h =
+    let next : f.next ≡ (run t order).next = ap (λ (x : Flat). x.next) h.state in
+    let most = next_most t order (boot t) in
+    let start = (boot_start t h.formed).next in
+    let few = laws_few t order f h in
+    can_step t f u h.formed h.sound (omega (arith, next, most, start, few)) left
+
+-- user objects are kept
+pub laws_kept : (t : Script) (order : List ℕ) (f : Flat) → AreLaws t order f → (home : ℕ → ℕ × Name) × IsKept home f
+laws_kept t order f h = (h.sound.home, h.sound.kept)
+
+-- what was confined before a request is so after it
+pub laws_confined : (t : Script) (order : List ℕ) (f g : Flat) (u : ℕ) → g ≡ (answer t f u).0 → AreLaws t order f
+    → (v x m : ℕ) → IsConfined f v x m → IsConfined g v x m
+laws_confined t order f g u states h v x m before = subst (λ e. IsConfined e v x m) (sym states) (confined_stays_once t f u v x m h.sound before)

@@ -1,0 +1,6 @@
+use Rattle.psos_laws.proofs.BootSound.{boot_start}
+use Rattle.psos_laws.proofs.OrdersAll.{all_from}
+use Rattle.psos_laws.proofs.orders.complete_orders_have_all.Goals as goal
+
+pub returns : goal.returns
+returns c = λ s order w done u within. all_from s w (boot_start s w) order done u within

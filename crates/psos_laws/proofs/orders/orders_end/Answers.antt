@@ -1,0 +1,5 @@
+use Rattle.psos_laws.proofs.OrdersEnd.{orders_end}
+use Rattle.psos_laws.proofs.orders.orders_end.Goals as goal
+
+pub returns : goal.returns
+returns c = orders_end

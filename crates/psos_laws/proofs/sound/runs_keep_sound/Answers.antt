@@ -1,0 +1,5 @@
+use Rattle.psos_laws.proofs.SharedSound.{runs_kept}
+use Rattle.psos_laws.proofs.sound.runs_keep_sound.Goals as goal
+
+pub returns : goal.returns
+returns c = runs_kept c.args.script.now c.args.flat.now c.args.order.now c.requires.well_formed c.requires.sound

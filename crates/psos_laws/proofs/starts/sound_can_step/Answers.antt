@@ -1,0 +1,5 @@
+use Rattle.psos_laws.proofs.UsersStep.{can_step}
+use Rattle.psos_laws.proofs.starts.sound_can_step.Goals as goal
+
+pub returns : goal.returns
+returns c = can_step

@@ -1,0 +1,5 @@
+use Rattle.psos_laws.proofs.Users.{users_kept}
+use Rattle.psos_laws.proofs.starts.users_stay_sound.Goals as goal
+
+pub returns : goal.returns
+returns c = users_kept

@@ -1,0 +1,152 @@
+use Rattle.std.proofs.Common.{[], ◌∷◌, ◌++◌, refl, ap, ◌∙◌, arith}
+use Rattle.psos_laws.proofs.WatchedRuns.{laws_of, laws_same, laws_more, laws_few, laws_step, laws_kept, laws_confined, laws_back}
+use Rattle.psos_laws.proofs.watched.Watched.step.Goals as goal
+
+pub overflow_cast-stamp : goal.overflow_cast-stamp
+overflow_cast-stamp c =
+    let w = c.args.self.now in
+    let t = c.args.script.now in
+    let was = laws_of w.script.value t w.order.items w.flat
+    (record { formed = c.requires.watched.formed; legal = c.requires.watched.legal; state = c.requires.watched.state; script = c.requires.script }) in
+    let few = laws_few t w.order.items w.flat was in
+    let count = c.len-stamp.ensures in
+    omega (arith, few, count)
+
+pub step-requires-clause-state : goal.step-requires-clause-state
+step-requires-clause-state c =
+    let w = c.args.self.now in
+    let t = c.args.script.now in
+    let was = laws_of w.script.value t w.order.items w.flat
+    (record { formed = c.requires.watched.formed; legal = c.requires.watched.legal; state = c.requires.watched.state; script = c.requires.script }) in
+    laws_step t w.order.items w.flat c.args.user c.requires.left was
+
+pub returns-in_err-try_reserve-clause-sound : goal.returns-in_err-try_reserve-clause-sound
+returns-in_err-try_reserve-clause-sound c =
+    let w = c.args.self.now in
+    let t = c.args.script.now in
+    let was = laws_of w.script.value t w.order.items w.flat
+    (record { formed = c.requires.watched.formed; legal = c.requires.watched.legal; state = c.requires.watched.state; script = c.requires.script }) in
+    let now = laws_same t w.order.items c.try_reserve.new.self.items w.flat w.flat c.in_err-try_reserve.ensures.items refl was in
+    now.sound
+
+pub returns-in_err-try_reserve-clause-guarded : goal.returns-in_err-try_reserve-clause-guarded
+returns-in_err-try_reserve-clause-guarded c =
+    let w = c.args.self.now in
+    let t = c.args.script.now in
+    let was = laws_of w.script.value t w.order.items w.flat
+    (record { formed = c.requires.watched.formed; legal = c.requires.watched.legal; state = c.requires.watched.state; script = c.requires.script }) in
+    let now = laws_same t w.order.items c.try_reserve.new.self.items w.flat w.flat c.in_err-try_reserve.ensures.items refl was in
+    now.sound.guarded
+
+pub returns-in_err-try_reserve-clause-kept : goal.returns-in_err-try_reserve-clause-kept
+returns-in_err-try_reserve-clause-kept c =
+    let w = c.args.self.now in
+    let t = c.args.script.now in
+    let was = laws_of w.script.value t w.order.items w.flat
+    (record { formed = c.requires.watched.formed; legal = c.requires.watched.legal; state = c.requires.watched.state; script = c.requires.script }) in
+    let now = laws_same t w.order.items c.try_reserve.new.self.items w.flat w.flat c.in_err-try_reserve.ensures.items refl was in
+    laws_kept t c.try_reserve.new.self.items w.flat now
+
+pub returns-in_err-try_reserve-clause-lawful : goal.returns-in_err-try_reserve-clause-lawful
+returns-in_err-try_reserve-clause-lawful c =
+    let w = c.args.self.now in
+    let t = c.args.script.now in
+    let was = laws_of w.script.value t w.order.items w.flat
+    (record { formed = c.requires.watched.formed; legal = c.requires.watched.legal; state = c.requires.watched.state; script = c.requires.script }) in
+    let now = laws_same t w.order.items c.try_reserve.new.self.items w.flat w.flat c.in_err-try_reserve.ensures.items refl was in
+    now.lawful
+
+pub returns-in_err-answer-clause-sound : goal.returns-in_err-answer-clause-sound
+returns-in_err-answer-clause-sound c =
+    let w = c.args.self.now in
+    let t = c.args.script.now in
+    let was = laws_of w.script.value t w.order.items w.flat
+    (record { formed = c.requires.watched.formed; legal = c.requires.watched.legal; state = c.requires.watched.state; script = c.requires.script }) in
+    let now = laws_same t w.order.items c.try_reserve.new.self.items w.flat c.step.new.self c.in_ok-try_reserve.ensures.items c.in_err-answer.ensures.err was in
+    now.sound
+
+pub returns-in_err-answer-clause-guarded : goal.returns-in_err-answer-clause-guarded
+returns-in_err-answer-clause-guarded c =
+    let w = c.args.self.now in
+    let t = c.args.script.now in
+    let was = laws_of w.script.value t w.order.items w.flat
+    (record { formed = c.requires.watched.formed; legal = c.requires.watched.legal; state = c.requires.watched.state; script = c.requires.script }) in
+    let now = laws_same t w.order.items c.try_reserve.new.self.items w.flat c.step.new.self c.in_ok-try_reserve.ensures.items c.in_err-answer.ensures.err was in
+    now.sound.guarded
+
+pub returns-in_err-answer-clause-kept : goal.returns-in_err-answer-clause-kept
+returns-in_err-answer-clause-kept c =
+    let w = c.args.self.now in
+    let t = c.args.script.now in
+    let was = laws_of w.script.value t w.order.items w.flat
+    (record { formed = c.requires.watched.formed; legal = c.requires.watched.legal; state = c.requires.watched.state; script = c.requires.script }) in
+    let now = laws_same t w.order.items c.try_reserve.new.self.items w.flat c.step.new.self c.in_ok-try_reserve.ensures.items c.in_err-answer.ensures.err was in
+    laws_kept t c.try_reserve.new.self.items c.step.new.self now
+
+pub returns-in_err-answer-clause-lawful : goal.returns-in_err-answer-clause-lawful
+returns-in_err-answer-clause-lawful c =
+    let w = c.args.self.now in
+    let t = c.args.script.now in
+    let was = laws_of w.script.value t w.order.items w.flat
+    (record { formed = c.requires.watched.formed; legal = c.requires.watched.legal; state = c.requires.watched.state; script = c.requires.script }) in
+    let now = laws_same t w.order.items c.try_reserve.new.self.items w.flat c.step.new.self c.in_ok-try_reserve.ensures.items c.in_err-answer.ensures.err was in
+    now.lawful
+
+pub returns-clause-sound : goal.returns-clause-sound
+returns-clause-sound c =
+    let w = c.args.self.now in
+    let t = c.args.script.now in
+    let was = laws_of w.script.value t w.order.items w.flat
+    (record { formed = c.requires.watched.formed; legal = c.requires.watched.legal; state = c.requires.watched.state; script = c.requires.script }) in
+    let now = laws_more t w.order.items c.push_reserved.new.self.items w.flat c.step.new.self c.args.user c.requires.left
+    (c.push_reserved.ensures.items ∙ ap (λ us. us ++ c.args.user ∷ []) c.in_ok-try_reserve.ensures.items) c.in_ok-answer.ensures.state was in
+    now.sound
+
+pub returns-clause-guarded : goal.returns-clause-guarded
+returns-clause-guarded c =
+    let w = c.args.self.now in
+    let t = c.args.script.now in
+    let was = laws_of w.script.value t w.order.items w.flat
+    (record { formed = c.requires.watched.formed; legal = c.requires.watched.legal; state = c.requires.watched.state; script = c.requires.script }) in
+    let now = laws_more t w.order.items c.push_reserved.new.self.items w.flat c.step.new.self c.args.user c.requires.left
+    (c.push_reserved.ensures.items ∙ ap (λ us. us ++ c.args.user ∷ []) c.in_ok-try_reserve.ensures.items) c.in_ok-answer.ensures.state was in
+    now.sound.guarded
+
+pub returns-clause-kept : goal.returns-clause-kept
+returns-clause-kept c =
+    let w = c.args.self.now in
+    let t = c.args.script.now in
+    let was = laws_of w.script.value t w.order.items w.flat
+    (record { formed = c.requires.watched.formed; legal = c.requires.watched.legal; state = c.requires.watched.state; script = c.requires.script }) in
+    let now = laws_more t w.order.items c.push_reserved.new.self.items w.flat c.step.new.self c.args.user c.requires.left
+    (c.push_reserved.ensures.items ∙ ap (λ us. us ++ c.args.user ∷ []) c.in_ok-try_reserve.ensures.items) c.in_ok-answer.ensures.state was in
+    laws_kept t c.push_reserved.new.self.items c.step.new.self now
+
+pub returns-clause-lawful : goal.returns-clause-lawful
+returns-clause-lawful c =
+    let w = c.args.self.now in
+    let t = c.args.script.now in
+    let was = laws_of w.script.value t w.order.items w.flat
+    (record { formed = c.requires.watched.formed; legal = c.requires.watched.legal; state = c.requires.watched.state; script = c.requires.script }) in
+    let now = laws_more t w.order.items c.push_reserved.new.self.items w.flat c.step.new.self c.args.user c.requires.left
+    (c.push_reserved.ensures.items ∙ ap (λ us. us ++ c.args.user ∷ []) c.in_ok-try_reserve.ensures.items) c.in_ok-answer.ensures.state was in
+    now.lawful
+
+pub returns-clause-watched : goal.returns-clause-watched
+returns-clause-watched c =
+    let w = c.args.self.now in
+    let t = c.args.script.now in
+    let was = laws_of w.script.value t w.order.items w.flat
+    (record { formed = c.requires.watched.formed; legal = c.requires.watched.legal; state = c.requires.watched.state; script = c.requires.script }) in
+    let now = laws_more t w.order.items c.push_reserved.new.self.items w.flat c.step.new.self c.args.user c.requires.left
+    (c.push_reserved.ensures.items ∙ ap (λ us. us ++ c.args.user ∷ []) c.in_ok-try_reserve.ensures.items) c.in_ok-answer.ensures.state was in
+    let back = laws_back w.script.value t c.push_reserved.new.self.items c.step.new.self c.requires.script now in
+    record { formed = back.formed; legal = back.legal; state = back.state }
+
+pub returns-clause-confined : goal.returns-clause-confined
+returns-clause-confined c =
+    let w = c.args.self.now in
+    let t = c.args.script.now in
+    let was = laws_of w.script.value t w.order.items w.flat
+    (record { formed = c.requires.watched.formed; legal = c.requires.watched.legal; state = c.requires.watched.state; script = c.requires.script }) in
+    laws_confined t w.order.items w.flat c.step.new.self c.args.user c.in_ok-answer.ensures.state was

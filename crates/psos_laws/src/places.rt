@@ -1,0 +1,50 @@
+// Laws of places: where capabilities come from, and who can hold what.
+ghost use Rattle.std.specs.Prelude.{ℕ};
+ghost use Rattle.psos_calls.specs.Script.{Script, IsWellFormed};
+ghost use Rattle.psos_model.specs.Flat.{Flat};
+ghost use Rattle.psos_model.specs.Answer.{answer};
+ghost use Rattle.psos_model.specs.Sound.{IsSound};
+ghost use Rattle.psos_laws.specs.SoundParts.{IsSoundPlaces};
+ghost use Rattle.psos_laws.specs.Trails.{IsConfined};
+ghost use Rattle.psos_laws.specs.Laws.{LandingsAreAll, LandingsStay, UnreadIsNew, LegalRunsAreLawful, ConfinedStays};
+
+/// After each answer to a sound state, every capability at a place is on a used identifier and passes the guard of
+/// its store, and one on a directory's representation lies at its own place (docs/promises.md, "Sound states").
+pub fn places_stay_sound()
+    ensures { (s : Script) (f : Flat) (u : ℕ) → IsWellFormed s → IsSound s f → IsSoundPlaces (answer s f u).0 }
+{}
+
+/// A capability at a place after an answer to a sound state landed there, or lay there, or moved up to there
+/// (docs/promises.md, "Origins").
+pub fn landings_are_all()
+    ensures { LandingsAreAll }
+{}
+
+/// What landed last at a place is there after an answer to a sound state, if the place is (docs/promises.md,
+/// "Origins").
+pub fn landings_stay()
+    ensures { LandingsStay }
+{}
+
+/// A capability that lands and was read nowhere is new (docs/promises.md, "Origins").
+pub fn unread_is_new()
+    ensures { UnreadIsNew }
+{}
+
+/// What is confined in a sound state is confined after each answer, whatever any user asks (docs/promises.md,
+/// "Held back, confined").
+pub fn confined_stays_once()
+    ensures { (s : Script) (f : Flat) (u v x m : ℕ) → IsSound s f → IsConfined f v x m → IsConfined (answer s f u).0 v x m }
+{}
+
+/// After each legal order from boot, every capability has a sound origin and passes the guard of its store, sealed
+/// holds, and held back holds (docs/promises.md, "Origins", "Guarded, kept, sealed" and "Held back, confined").
+pub fn legal_runs_are_lawful()
+    ensures { LegalRunsAreLawful }
+{}
+
+/// What is confined after a legal order from boot is confined after each longer one, whatever any user asks
+/// (docs/promises.md, "Held back, confined").
+pub fn confined_stays()
+    ensures { ConfinedStays }
+{}
