@@ -1,0 +1,5 @@
+use Rattle.psos_rows.proofs.First.{NoneBelow}
+use Rattle.psos_rows.proofs.serial.first_left.Given as goal
+
+abbrev pub invariant-users : goal.invariant-users
+invariant-users l = NoneBelow l.script l.flat.users l.u
