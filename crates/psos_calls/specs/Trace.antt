@@ -1,5 +1,7 @@
 -- What a plan does after a trace. States docs/requests.md, "Plans".
-use Rattle.std.specs.Prelude.{◌≡◌, ℕ, List, [], ◌∷◌}
+use Rattle.std.specs.Prelude.{◌≡◌, ℕ, List, [], ◌∷◌, map}
+use Rattle.psos_calls.specs.declared.level.Level.{Level}
+use Rattle.psos_calls.specs.declared.level_call.LevelCall.{LevelCall}
 use Rattle.psos_calls.specs.declared.step.Step.{Step}
 use Rattle.psos_calls.specs.declared.next.Next.{Next}
 use Rattle.psos_calls.specs.declared.next.Next.TheVariants.{Call, Close}
@@ -24,3 +26,7 @@ IsTraceOf plan l [] = Unit {0}
 IsTraceOf (plans.Close reply effect) l (s ∷ trace) = ⊥
 IsTraceOf (Ask call go) l (s ∷ trace) =
     (s ≡ record { level = level_of call; call = call; answer = (act l call).1 }) × IsTraceOf (go (act l call).1) (act l call).0 trace
+
+-- the calls of a trace, without their answers
+abbrev pub calls_in : List Step → List (Level × LevelCall)
+calls_in trace = map (λ (s : Step). (s.level, s.call)) trace

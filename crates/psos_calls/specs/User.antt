@@ -114,10 +114,3 @@ CanMake x (Enter label link) = (x.charge + 16 < 2 ^ 16) × (length x.frames < 4)
 pub record CanSettle (x : User) (e : Effect) : Type 0 where
   pub count : CanCount x x.frames
   pub make : CanMake x e
-
--- a register that is written is one of the sixteen. (No other effect is built today.)
-abbrev pub EffectFits : Effect → Type 0
-EffectFits Nothing = Unit {0}
-EffectFits (Put i word) = i < 16
-EffectFits (Push cap) = ⊥
-EffectFits (Enter label link) = ⊥

@@ -1,8 +1,10 @@
 // The calls of an open request.
-ghost use Rattle.std.specs.Prelude.{◌≡◌, ◌<◌, ◌≤◌, [], ◌∷◌, ◌++◌, length};
+ghost use Rattle.std.specs.Prelude.{◌≡◌, ◌<◌, ◌≤◌, [], ◌∷◌, ◌++◌, length, IfOk};
+ghost use Rattle.psos_calls.specs.Trace.{calls_in};
 
-use crate::Step;
+use crate::{Step, Steps};
 use arrayvec::ArrayVec;
+use std::alloc::{AllocError, Global};
 use std::marker::Model;
 
 /// The calls that an open request made, with their answers, in order: at most 64. It is seen as their list.
@@ -43,5 +45,23 @@ impl Trace {
         ensures { result.now ≡ self.now }
     {
         self.steps.as_slice()
+    }
+
+    /// Forgets all of them. It takes no memory, and makes nothing anew.
+    pub fn clear(&mut self)
+        ensures { self.new ≡ [] }
+    {
+        self.steps.clear();
+    }
+
+    /// The calls without their answers. A refusal is for memory.
+    pub fn calls(&self, alloc: Global) -> Result<Steps, AllocError>
+        ensures { IfOk result (λ s. s ≡ calls_in self.now) }
+    {
+        let mut calls = Steps::empty(alloc);
+        'steps: for step in self.steps.as_slice() {
+            calls.push(step.level, step.call)?;
+        }
+        Ok(calls)
     }
 }

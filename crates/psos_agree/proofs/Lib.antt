@@ -1,0 +1,9 @@
+pub mod Walk
+pub mod Views
+pub mod Words
+pub mod Fresh
+pub mod Segments
+pub mod Stepping
+pub mod BootStandsSlots
+pub mod BootStandsWords
+pub mod BootStands

@@ -1,0 +1,16 @@
+pub mod SegmentsSlots
+pub mod SegmentsMade
+pub mod SegmentsApart
+pub mod SegmentsObjects
+pub mod SegmentsDirs
+pub mod SegmentsRoom
+pub mod SegmentsWalk
+pub mod Entries
+pub mod EntriesPut
+pub mod EntriesOpen
+pub mod EntriesRoom
+pub mod EntriesRequests
+pub mod EntriesMake
+pub mod EntriesLife
+pub mod EntriesDrop
+pub mod AllDirectories
