@@ -1,13 +1,20 @@
 //! The text of a run: each user's lines in the order of the script, and how many requests and level calls there were.
 #![tactic(auto)]
 
+mod done;
+mod fault;
+mod lengths;
 mod line;
+mod places;
 mod refusal;
 mod reply;
-mod run;
+mod transcript;
 
+pub use done::done_line;
+pub use fault::PrintFault;
+pub use lengths::line_len;
 pub use line::put_line;
-pub use run::print_run;
+pub use transcript::put_transcript;
 
 #[cfg(test)]
 mod tests;

@@ -4,6 +4,7 @@ ghost use Rattle.psos_text.specs.Name.{name_text};
 ghost use Rattle.psos_model.specs.Transcript.{place_text, answer_text, line_text};
 ghost use Rattle.psos_print.specs.Line.{answered_in};
 
+use crate::lengths::line_len;
 use crate::reply::put_reply;
 use psos_calls::{Line, Reply};
 use psos_text::{Name, put_number};
@@ -62,7 +63,7 @@ pub fn put_line(
     ensures ok { OnOk result (out.new.items ≡ out.old.items ++ line_text (name_text name.now) line.now.stamp (answered_in line.now)) }
     ensures err { OnErr result (out.new.items ≡ out.old.items) }
 {
-    let mut text = Vec::with_capacity(alloc, 64)?;
+    let mut text = Vec::with_capacity(alloc, line_len(name, line))?;
     let stamp = u64::from(line.stamp);
     put_parts(alloc, &mut text, name, line.n, line.m, stamp, &line.reply)?;
     out.extend_from_slice(&text)

@@ -1,13 +1,14 @@
 // Why a request was refused.
-ghost use Rattle.std.specs.Prelude.{◌≡◌, ◌++◌, OnOk};
+ghost use Rattle.std.specs.Prelude.{◌≡◌, ◌≤◌, ◌++◌, length, OnOk};
 ghost use Rattle.psos_model.specs.Transcript.{kind_text, right_text, tab_text, refusal_text};
 
 use psos_calls::{Kind, Refusal, Right, Tab};
 use psos_text::put_number;
 use std::alloc::{AllocError, Global};
 
-fn kind_word(kind: Kind) -> &'static [u8]
-    ensures { result.now ≡ kind_text kind }
+pub(crate) fn kind_word(kind: Kind) -> &'static [u8]
+    ensures word { result.now ≡ kind_text kind }
+    ensures few { length result.now ≤ 9 }
 {
     match kind {
         Kind::Segment => b"segment",
@@ -19,8 +20,9 @@ fn kind_word(kind: Kind) -> &'static [u8]
     }
 }
 
-fn right_word(right: Right) -> &'static [u8]
-    ensures { result.now ≡ right_text right }
+pub(crate) fn right_word(right: Right) -> &'static [u8]
+    ensures word { result.now ≡ right_text right }
+    ensures few { length result.now ≤ 9 }
 {
     match right {
         Right::Read => b"read",
@@ -39,8 +41,9 @@ fn right_word(right: Right) -> &'static [u8]
     }
 }
 
-fn tab_word(tab: Tab) -> &'static [u8]
-    ensures { result.now ≡ tab_text tab }
+pub(crate) fn tab_word(tab: Tab) -> &'static [u8]
+    ensures word { result.now ≡ tab_text tab }
+    ensures few { length result.now ≤ 9 }
 {
     match tab {
         Tab::Objects => b"objects",

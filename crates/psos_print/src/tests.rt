@@ -2,11 +2,12 @@
 ghost use Rattle.std.specs.Prelude.{◌≡◌, ◌≤◌, ◌<◌, ◌+◌, length, IfOk, OnOk};
 ghost use Rattle.psos_model.specs.Output.{calls_of};
 
-use crate::{print_run, put_line};
+use crate::{PrintFault, done_line, line_len, put_line, put_transcript};
 use psos_calls::{
     Entry, Level, LevelCall, Line, Names, Refusal, Reply, Right, Script, Steps, Tab, UserText,
 };
 use psos_caps::from_payload;
+use psos_io::{MemSink, Sink};
 use psos_journal::Entries;
 use psos_text::Name;
 use std::alloc::{AllocError, Global};
@@ -22,7 +23,9 @@ fn expect<R: Abort>(
     text: &[u8],
 ) -> Result<(), Fail> {
     let mut out = b"done 0 calls 0\n".to_vec(alloc)?;
-    put_line(alloc, &mut out, &Name::read(name)?, &line)?;
+    let name = Name::read(name)?;
+    assert_eq!(rt; line_len(&name, &line), text.len());
+    put_line(alloc, &mut out, &name, &line)?;
     let (front, rest) = out.split_at(15);
     assert_eq!(rt; front, b"done 0 calls 0\n".as_slice());
     assert_eq!(rt; rest, text);
@@ -153,21 +156,72 @@ fn push(entries: &mut Entries<Entry>, entry: Entry) -> Result<(), Fail>
     }
 }
 
-#[test]
-fn run(rt: HostRuntime) -> Result<(), Fail> {
-    let alloc = rt.alloc();
+// A script of bob and alice.
+fn script(alloc: Global) -> Result<Script, Fail> {
     let mut users = Vec::new(alloc);
     users.push(UserText::new(Name::read(b"bob")?, Vec::new(alloc)))?;
     users.push(UserText::new(Name::read(b"alice")?, Vec::new(alloc)))?;
-    let script = Script::new(users, Vec::new(alloc));
+    Ok(Script::new(users, Vec::new(alloc)))
+}
+
+#[test]
+fn run(rt: HostRuntime) -> Result<(), Fail> {
+    let alloc = rt.alloc();
+    let script = script(alloc)?;
     let mut entries = none(alloc);
     push(&mut entries, entry(alloc, 1, 1, false)?)?;
     push(&mut entries, entry(alloc, 0, 1, true)?)?;
     push(&mut entries, entry(alloc, 1, 2, false)?)?;
-    let text = print_run(alloc, &script, &entries)?;
+    push(&mut entries, entry(alloc, 2, 7, false)?)?;
+    // All lines go in one write, since a second would fail.
+    let mut out = MemSink::new(1000, vec![in alloc; 2]?);
+    out.reserve(alloc, 1000)?;
+    put_transcript(alloc, &script, &entries, &mut out)?;
     assert_eq!(rt;
-        text.as_slice(),
-        b"bob 1 @1 data 5\nalice 1 @0 data 5\nalice 2 @2 data 5\ndone 3 calls 1\n".as_slice()
+        out.bytes(),
+        b"bob 1 @1 data 5\nalice 1 @0 data 5\nalice 2 @2 data 5\n".as_slice()
     );
+    let last = done_line(alloc, &entries)?;
+    assert_eq!(rt; last.as_slice(), b"done 4 calls 1\n".as_slice());
+    Ok(())
+}
+
+#[test]
+fn nothing(rt: HostRuntime) -> Result<(), Fail> {
+    let alloc = rt.alloc();
+    let script = script(alloc)?;
+    let entries = none(alloc);
+    let mut out = MemSink::new(5, Vec::new(alloc));
+    put_transcript(alloc, &script, &entries, &mut out)?;
+    assert_eq!(rt; out.bytes(), b"".as_slice());
+    let last = done_line(alloc, &entries)?;
+    assert_eq!(rt; last.as_slice(), b"done 0 calls 0\n".as_slice());
+    Ok(())
+}
+
+// The second piece is refused, and the first was one line of 17,015 bytes.
+#[test]
+fn a_write_fails(rt: HostRuntime) -> Result<(), Fail> {
+    let alloc = rt.alloc();
+    let script = script(alloc)?;
+    let mut names = Names::empty(alloc);
+    let mut text = b"bob 1 @1 names".to_vec(alloc)?;
+    for _ in 0..1000 {
+        names.push(Name::read(b"abcdefghijklmnop")?)?;
+        text.extend_from_slice(b" abcdefghijklmnop")?;
+    }
+    text.push(b'\n')?;
+    let mut entries = none(alloc);
+    push(&mut entries, entry(alloc, 1, 1, false)?)?;
+    let mut long = entry(alloc, 0, 1, false)?;
+    long.reply = Reply::Names(names);
+    push(&mut entries, long)?;
+    let mut out = MemSink::new(100_000, vec![in alloc; 2]?);
+    out.reserve(alloc, 100_000)?;
+    let Err(PrintFault::Write) = put_transcript(alloc, &script, &entries, &mut out) else {
+        return Err(Fail::new("no write failed"));
+    };
+    assert_eq!(rt; out.bytes(), text.as_slice());
+    assert_eq!(rt; out.faults(), 1);
     Ok(())
 }

@@ -1,0 +1,19 @@
+use Rattle.std.proofs.Common.{◌<◌, length, arith}
+use Rattle.psos_text.specs.Name.{name_text}
+use Rattle.psos_print.proofs.Pieces.{left_more, left_begun, on_err}
+use Rattle.psos_print.proofs.Gathered.{lines_next, all_at}
+use Rattle.psos_print.proofs.transcript.put_entries.Goals as goal
+
+pub returns-in_err-put_entry-clause-err : goal.returns-in_err-put_entry-clause-err
+returns-in_err-put_entry-clause-err g c =
+    let i = c.places.place-index in
+    let within : i < length c.args.places.now = omega arith in
+    let next = lines_next (name_text c.args.name.now) c.args.entries.now c.args.places.now i c.index-entries-place.result within (all_at _ c.args.places.now i c.requires within) c.index-entries-place.is in
+    on_err _ (left_begun _ _ _ _ _ _ _ _ _ _ _ c.places.invariant next c.in_err-put_entry.ensures.err)
+
+pub places-preserved : goal.places-preserved
+places-preserved g c =
+    let i = c.places.place-index in
+    let within : i < length c.args.places.now = omega arith in
+    let next = lines_next (name_text c.args.name.now) c.args.entries.now c.args.places.now i c.index-entries-place.result within (all_at _ c.args.places.now i c.requires within) c.index-entries-place.is in
+    left_more _ _ _ _ _ _ _ _ _ _ _ _ _ c.places.invariant next c.in_ok-put_entry.ensures.ok c.in_ok-put_entry.ensures.later

@@ -1,0 +1,135 @@
+// The transcript of a run.
+ghost use Rattle.std.specs.Prelude.{◌≡◌, ◌<◌, ◌≤◌, ◌^◌, ◌++◌, [], length, map, IfErr, OnOk, OnErr};
+ghost use Rattle.std.specs.List.{AllByRecursion};
+ghost use Rattle.std.specs.Io.KnownBytes.{Appends};
+ghost use Rattle.psos_io.specs.Bytes.{AppendsFront};
+ghost use Rattle.psos_text.specs.Name.{name_text};
+ghost use Rattle.psos_model.specs.Replay.{answered_of};
+ghost use Rattle.psos_model.specs.Transcript.{line_text, users_lines};
+ghost use Rattle.psos_print.specs.Pieces.{HasPut, HasBegun, HasReason};
+ghost use Rattle.psos_print.specs.Places.{entries_text, lines_at, HasPlaces};
+
+use crate::fault::PrintFault;
+use crate::line::put_parts;
+use crate::places::gather;
+use psos_calls::{Entry, Script, UserText};
+use psos_io::{Sink, put_all};
+use psos_journal::Entries;
+use psos_text::Name;
+use std::alloc::{AllocError, Global};
+
+// How many bytes wait at most before they are written, a last line aside.
+const PIECE: usize = 16_384;
+
+// Writes the piece, and empties it.
+fn write_piece<K: Sink>(piece: &mut Vec<u8>, out: &mut K) -> Result<(), PrintFault>
+    ensures ok { OnOk result (Appends (K.took out.old) (K.took out.new) piece.old.items) }
+    ensures empty { OnOk result (piece.new.items ≡ []) }
+    ensures err { OnErr result (HasBegun (K.took out.old) (K.took out.new) piece.old.items) }
+    ensures later { K.faults out.old ≤ K.faults out.new }
+    ensures reason { IfErr result (HasReason (K.faults out.old) (K.faults out.new)) }
+{
+    if put_all(out, piece).is_err() {
+        return Err(PrintFault::Write);
+    }
+    piece.clear();
+    Ok(())
+}
+
+// The line of an entry behind the piece, which is written where it is full.
+fn put_entry<K: Sink>(
+    alloc: Global,
+    name: &Name,
+    place: u32,
+    entry: &Entry,
+    piece: &mut Vec<u8>,
+    out: &mut K,
+) -> Result<(), PrintFault>
+    ensures ok { OnOk result (HasPut (K.took out.old) (K.took out.new) piece.old.items piece.new.items (line_text (name_text name.now) place (answered_of entry.now))) }
+    ensures err { OnErr result (HasBegun (K.took out.old) (K.took out.new) (piece.old.items ++ line_text (name_text name.now) place (answered_of entry.now))) }
+    ensures later { K.faults out.old ≤ K.faults out.new }
+    ensures reason { IfErr result (HasReason (K.faults out.old) (K.faults out.new)) }
+{
+    let stamp = u64::from(place);
+    if put_parts(alloc, piece, name, entry.n, entry.m, stamp, &entry.reply).is_err() {
+        return Err(PrintFault::Memory(AllocError));
+    }
+    if piece.len() < PIECE {
+        return Ok(());
+    }
+    write_piece(piece, out)
+}
+
+// The lines of the entries at these places.
+fn put_entries<K: Sink>(
+    alloc: Global,
+    name: &Name,
+    places: &[u32],
+    entries: &[Entry],
+    piece: &mut Vec<u8>,
+    out: &mut K,
+) -> Result<(), PrintFault>
+    requires { AllByRecursion (λ p. p < length entries.now) places.now }
+    ensures ok { OnOk result (HasPut (K.took out.old) (K.took out.new) piece.old.items piece.new.items (lines_at (name_text name.now) entries.now places.now)) }
+    ensures err { OnErr result (HasBegun (K.took out.old) (K.took out.new) (piece.old.items ++ lines_at (name_text name.now) entries.now places.now)) }
+    ensures later { K.faults out.old ≤ K.faults out.new }
+    ensures reason { IfErr result (HasReason (K.faults out.old) (K.faults out.new)) }
+{
+    'places: for place in places {
+        put_entry(alloc, name, *place, &entries[*place as usize], piece, out)?;
+    }
+    Ok(())
+}
+
+// The lines of each user, whose places stand in the list of the same number.
+fn put_users<K: Sink>(
+    alloc: Global,
+    users: &[UserText],
+    lists: &[Vec<u32>],
+    entries: &[Entry],
+    piece: &mut Vec<u8>,
+    out: &mut K,
+) -> Result<(), PrintFault>
+    requires { HasPlaces (length users.now) (map (λ l. l.items) lists.now) entries.now }
+    ensures ok { OnOk result (HasPut (K.took out.old) (K.took out.new) piece.old.items piece.new.items (users_lines users.now 0 (map answered_of entries.now))) }
+    ensures err { OnErr result (HasBegun (K.took out.old) (K.took out.new) (piece.old.items ++ users_lines users.now 0 (map answered_of entries.now))) }
+    ensures later { K.faults out.old ≤ K.faults out.new }
+    ensures reason { IfErr result (HasReason (K.faults out.old) (K.faults out.new)) }
+{
+    let mut u = 0usize;
+    'users: for user in users {
+        put_entries(alloc, user.name(), &lists[u], entries, piece, out)?;
+        u += 1;
+    }
+    Ok(())
+}
+
+/// Writes the transcript of a run's entries: for each user in the order of the script, that user's lines in their
+/// order, each with the entry's position as its stamp (docs/program.md, "Output"). An entry of a user that the script
+/// has not is passed over.
+///
+/// It is written in pieces of 16,384 bytes or little more; the last may be shorter. The entries are gone over once to
+/// find each user's, and one buffer serves for all lines. After either fault a front of the transcript was written:
+/// `PrintFault::Write` only where a write failed, `PrintFault::Memory` for want of memory.
+pub fn put_transcript<K: Sink>(
+    alloc: Global,
+    script: &Script,
+    entries: &Entries<Entry>,
+    out: &mut K,
+) -> Result<(), PrintFault>
+    ensures whole { OnOk result (Appends (K.took out.old) (K.took out.new) (entries_text script.now entries.now)) }
+    ensures front { AppendsFront (K.took out.old) (K.took out.new) (entries_text script.now entries.now) }
+    ensures later { K.faults out.old ≤ K.faults out.new }
+    ensures reason { IfErr result (HasReason (K.faults out.old) (K.faults out.new)) }
+{
+    let users = script.users();
+    let entries = entries.as_slice();
+    let Ok(lists) = gather(alloc, users.len(), entries) else {
+        return Err(PrintFault::Memory(AllocError));
+    };
+    let Ok(mut piece) = Vec::with_capacity(alloc, PIECE + 4096) else {
+        return Err(PrintFault::Memory(AllocError));
+    };
+    put_users(alloc, users, &lists, entries, &mut piece, out)?;
+    write_piece(&mut piece, out)
+}
