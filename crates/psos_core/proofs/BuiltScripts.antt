@@ -1,17 +1,16 @@
 -- What holds of the requests of a script whose requests are all built.
-use Rattle.std.proofs.Common.{◌≡◌, ℕ, zero, suc, ◌+◌, ◌<◌, ◌≤◌, List, [], ◌∷◌, length, map, Option, Some, refl, sym, ap, ◌∙◌, subst, arith}
-use Rattle.std.specs.Prelude.{slice_get, slice_index_or, sum_by, max}
+use Rattle.std.proofs.Common.{◌≡◌, ℕ, zero, suc, ◌+◌, ◌<◌, ◌≤◌, List, [], ◌∷◌, length, Some, arith}
+use Rattle.std.specs.Prelude.{slice_get, slice_index_or, sum_by}
 use Rattle.std.specs.List.{AllByRecursion}
 use Rattle.psos_calls.specs.declared.request.Request.{Request}
 use Rattle.psos_calls.specs.declared.frame.Frame.{Frame}
 use Rattle.psos_calls.specs.Request.{InRange}
-use Rattle.psos_calls.specs.Script.{UserScript, CodeBlock, Script, requests_of, user_script, body_of, IsUserScript, IsWellFormed}
+use Rattle.psos_calls.specs.Script.{UserScript, Script, requests_of, user_script, body_of, IsUserScript}
 use Rattle.psos_calls.specs.User.{User, next_in, next_request}
 use Rattle.psos_model.specs.Spelling.{IsBuilt, IsBuiltUser, IsBuiltCode, IsBuiltRequest}
-use Rattle.psos_model.specs.Agreement.{AsksBuilt}
 use Rattle.psos_core.specs.Order.{asked_in, phases_most}
 use Rattle.psos_core.proofs.Lists.{all_at, all_index}
-use Rattle.psos_core.proofs.Phases.{all_flat, before_few, phases_few}
+use Rattle.psos_core.proofs.Phases.{all_flat, phases_few}
 
 built_user : (s : Script) (u : ℕ) → IsBuilt s → IsBuiltUser (user_script s u)
 built_user s u b = all_index IsBuiltUser s.users u (record { name = []; phases = [] }) b.users tt
@@ -25,7 +24,7 @@ asks_in s x [] request b e =
 asks_in s x (q ∷ outer) request b e = all_at IsBuiltRequest (body_of s q.label) q.line request (built_body s q.label b) e
 
 -- whoever asks, what is asked next is built
-pub asks_built : (s : Script) → IsBuilt s → AsksBuilt s
+pub asks_built : (s : Script) → IsBuilt s → (x : User) (request : Request) → next_request s x ≡ Some request → IsBuiltRequest request
 asks_built s b x request e = asks_in s x x.frames request b e
 
 -- a request of a phase is built

@@ -1,17 +1,15 @@
 -- Who has a request left, while a serial run is on its way.
-use Rattle.std.proofs.Common.{◌≡◌, ℕ, zero, suc, ◌+◌, ◌<◌, ◌≤◌, min, Bool, true, false, cond, eqb, List, [], ◌∷◌, length, Option, Some, None, refl, sym, ap, ◌∙◌, subst, arith}
+use Rattle.std.proofs.Common.{◌≡◌, ℕ, zero, suc, ◌<◌, ◌≤◌, true, false, List, [], ◌∷◌, length, Option, Some, None, refl, sym, ap, ◌∙◌, subst, arith}
 use Rattle.std.specs.Prelude.{slice_get, ◌||◌}
-use Rattle.std.proofs.lemmas.Bool.{eq-eqb, le-ltb}
+use Rattle.std.proofs.lemmas.Bool.{eq-eqb}
 use Rattle.std.proofs.lemmas.Option.{slice_get_within}
-use Rattle.psos_calls.specs.declared.request.Request.{Request}
 use Rattle.psos_calls.specs.declared.frame.Frame.{Frame}
 use Rattle.psos_calls.specs.Script.{Script, user_script}
 use Rattle.psos_calls.specs.User.{User}
 use Rattle.psos_calls.specs.Tests.{if_there}
 use Rattle.psos_model.specs.Run.{phase_at, phase_in, phase_of, earlier, current_phase, is_now, is_open, is_left, has_left}
 use Rattle.psos_core.specs.Order.{asked_in}
-use Rattle.psos_core.specs.Progress.{before, answered_at, IsUserAt}
-use Rattle.psos_core.proofs.Lists.{there_is}
+use Rattle.psos_core.specs.Progress.{answered_at, IsUserAt}
 use Rattle.psos_core.proofs.Phases.{AtLeast, phase_low, phase_is, phase_none}
 use Rattle.psos_core.proofs.Counted.{count_here, count_start}
 

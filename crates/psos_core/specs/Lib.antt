@@ -1,5 +1,7 @@
 pub mod System
+pub mod Faults
 pub mod Order
-pub mod Plain
 pub mod Serving
 pub mod Progress
+pub mod Parts
+pub mod Booting

@@ -1,52 +1,89 @@
 -- What serving one request, and all of them, leaves.
-use Rattle.std.specs.Prelude.{◌≡◌, ◌+◌, ◌-◌, ◌^◌, ◌<◌, ℕ, List, [], slice_get, Some}
+use Rattle.std.specs.Prelude.{◌≡◌, ◌+◌, ◌≤◌, ◌<◌, ◌^◌, ℕ, false, List, slice_get, map, Some}
 use Rattle.psos_calls.specs.declared.request.Request.{Request}
 use Rattle.psos_calls.specs.declared.reply.Reply.{Reply}
+use Rattle.psos_calls.specs.declared.effect.Effect.{Effect}
 use Rattle.psos_calls.specs.declared.level.Level.{Level}
 use Rattle.psos_calls.specs.declared.level_call.LevelCall.{LevelCall}
-use Rattle.psos_calls.specs.declared.effect.Effect.{Effect}
 use Rattle.psos_calls.specs.declared.entry.Entry.{Entry}
-use Rattle.psos_calls.specs.Script.{Script}
-use Rattle.psos_calls.specs.Request.{InRange}
-use Rattle.psos_calls.specs.User.{User, next_request, EffectFits}
+use Rattle.psos_calls.specs.Script.{Script, IsWellFormed}
+use Rattle.psos_calls.specs.User.{User, next_request, CanCount}
 use Rattle.psos_calls.specs.Levels.{Levels}
-use Rattle.psos_calls.specs.Plan.{PlanRun}
-use Rattle.psos_model.specs.Spelling.{IsBuiltRequest}
-use Rattle.psos_model.specs.Run.{IsComplete, run}
-use Rattle.psos_model.specs.Replay.{System, replay_step, replay, order_of, AreFaithful}
+use Rattle.psos_calls.specs.Plan.{Plan, PlanRun, Runs}
+use Rattle.psos_model.specs.Flat.{Flat}
+use Rattle.psos_model.specs.Spelling.{IsBuilt, IsBuiltRequest}
+use Rattle.psos_model.specs.Run.{has_left, run_from, answers_from, run, IsLegalFrom, IsComplete}
+use Rattle.psos_model.specs.Replay.{System, replay_step, replay_from, replay, entries_from, order_of, answered_of, AreFaithful}
 use Rattle.psos_model.specs.Output.{calls_of}
-use Rattle.psos_model.specs.StandsFor.{StandsInPart}
+use Rattle.psos_model.specs.Sound.{IsSound, IsStart}
+use Rattle.psos_model.specs.StandsFor.{StandsFor}
 use Rattle.psos_core.specs.Order.{serial_order}
 
--- a plan was run from these levels: the next identifier, the calls, the reply and the effect are its own, and it changed no other level
-pub record IsPlanRun (p : PlanRun) (l : Levels) (next : ℕ) (calls : List (Level × LevelCall)) (reply : Reply) (effect : Effect) : Type 0 where
-  pub levels-are : p.levels ≡ record l { next = next }
+-- where a run starts: the levels with the users' own parts, and the flat state that they stand for
+pub record Start : Type 0 where
+  pub system : System
+  pub flat : Flat
+
+-- the script can run from there: the flat state is sound, no request is answered, and identifiers are left
+pub record Starts (s : Script) (y : System) (f : Flat) : Type 0 where
+  pub built : IsBuilt s
+  pub stands : StandsFor y f
+  pub start : IsStart s f
+
+-- the replay of an order stands for its run, and answers as it does
+pub record RunStands (s : Script) (y : System) (f : Flat) (order : List ℕ) : Type 0 where
+  pub stands : StandsFor (replay_from s y order) (run_from s f order)
+  pub answered : map answered_of (entries_from s y order) ≡ answers_from s f order
+
+-- ---- one request
+
+-- each call of the plan can be made, one after another
+abbrev pub CanRun : Plan → Levels → Type 0
+CanRun plan l = Runs plan l (λ after reply effect. Unit {0})
+
+-- a plan was run: the levels after it, its calls, its reply and its effect
+pub record IsPlanRun (p : PlanRun) (after : Levels) (calls : List (Level × LevelCall)) (reply : Reply) (effect : Effect) : Type 0 where
+  pub levels-are : after ≡ p.levels
   pub calls-are : calls ≡ p.calls
   pub reply-is : reply ≡ p.reply
   pub effect-is : effect ≡ p.effect
-  pub fits : EffectFits effect
 
--- user u asks this request next, and it can be served
+-- user u asks this request next, and it can be served: the levels stand for a sound flat state in which two identifiers are left
 pub record Asks (s : Script) (y : System) (u : ℕ) (request : Request) : Type 0 where
   pub user : User
+  pub flat : Flat
   pub here : slice_get y.users u ≡ Some user
   pub next : next_request s user ≡ Some request
   pub built : IsBuiltRequest request
-  pub in_range : InRange 0 request
-  pub closed : user.frames ≡ []
-  pub few : user.answered + 1 < 2 ^ 16
-  pub fresh : y.levels.next < 2 ^ 64 - 1
+  pub well_formed : IsWellFormed s
+  pub stands : StandsFor y flat
+  pub sound : IsSound s flat
+  pub room : flat.next + 3 ≤ 2 ^ 64
+  pub count : CanCount user user.frames
 
 -- user u's next request was served by its plan
 pub record IsServed (s : Script) (old : System) (u : ℕ) (new : System) (entry : Entry) : Type 0 where
   pub system-is : new ≡ (replay_step s old u).0
   pub entry-is : entry ≡ (replay_step s old u).1
 
--- a whole serial run from boot: its order is complete and serial, its entries are faithful and made few level calls, the levels are those of the replay, and stand in part for the flat state
+-- ---- all requests
+
+-- a whole serial run from such a start: nobody has a request left, the order is serial, the entries are those of its replay and say what the run answers, and the levels stand for the flat state of the run
+pub record IsRunFrom (s : Script) (y : System) (f : Flat) (entries : List Entry) (left : System) : Type 0 where
+  pub legal : IsLegalFrom s f (order_of entries)
+  pub over : (u : ℕ) → has_left s (run_from s f (order_of entries)).users u ≡ false
+  pub recorded : entries ≡ entries_from s y (order_of entries)
+  pub answered : map answered_of entries ≡ answers_from s f (order_of entries)
+  pub serial : order_of entries ≡ serial_order s
+  pub few : calls_of entries < 2 ^ 64
+  pub replayed : left ≡ replay_from s y (order_of entries)
+  pub stands : StandsFor left (run_from s f (order_of entries))
+
+-- a whole serial run from boot: its order is complete and serial, its entries are faithful and made few level calls, the levels are those of the replay, and stand for the flat state of the run
 pub record IsWholeRun (s : Script) (entries : List Entry) (left : System) : Type 0 where
   pub complete : IsComplete s (order_of entries)
   pub faithful : AreFaithful s entries
   pub serial : order_of entries ≡ serial_order s
   pub few : calls_of entries < 2 ^ 64
   pub replayed : left ≡ replay s (order_of entries)
-  pub stands : StandsInPart left (run s (order_of entries))
+  pub stands : StandsFor left (run s (order_of entries))

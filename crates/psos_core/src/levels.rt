@@ -1,116 +1,82 @@
-// The levels' states and the users' own parts.
-ghost use Rattle.std.specs.Prelude.{◌≡◌, ◌≤◌, ◌+◌, ◌-◌, ◌*◌, ◌<◌, ◌^◌, [], ◌∷◌, length, map, sum_by, IfOk};
-ghost use Rattle.psos_caps.specs.Capability.{Capability, full};
-ghost use Rattle.psos_calls.specs.Script.{UserScript, IsWellFormed, requests_of};
-ghost use Rattle.psos_model.specs.Boot.{root, process_of, home_of, scratch_of, boot_regs as regs_at_boot, boot_user as user_at_boot, boot_users, boot_next};
-ghost use Rattle.psos_model.specs.Replay.{boot_system};
-ghost use Rattle.psos_core.specs.System.{system_of};
+// The levels together, and the users' own parts.
+ghost use Rattle.std.specs.Prelude.{◌≡◌, ◌≤◌, ◌-◌, ◌<◌, ◌^◌, IfOk, OnErr};
+ghost use Rattle.psos_io.specs.Causes.{HasCause};
+ghost use Rattle.psos_calls.specs.Levels.{level_of, act as act_of, act0, Can};
+ghost use Rattle.psos_core.specs.System.{levels_of};
+ghost use Rattle.psos_core.specs.Faults.{IsLicensed};
 
 use arrayvec::ArrayVec;
-use psos_calls::{Path, Private, Request, Script};
-use psos_caps::{Cap, Issuer, Rights, Uid};
+use psos_calls::{Level, LevelAnswer, LevelCall, LevelFault, Private};
+use psos_caps::Issuer;
+use psos_codes::Codes;
+use psos_dirs::Dirs;
 use psos_io::Store;
-use psos_words::{Registers, Word};
-use std::alloc::{AllocError, Global};
+use psos_life::Life;
+use psos_pages::Pages;
+use psos_procs::Procs;
+use psos_segs::Segs;
+use psos_types::Types;
+use std::alloc::Global;
 
-/// The states of the levels, and the users' own parts in the order of the script. The backing store is kept, and
-/// no level calls it today.
+/// The states of all levels, with the backing store beneath level 7, and the users' own parts in the order of the
+/// script.
 #[derive(Drop)]
 pub struct Levels<B: Store> {
     /// Level 0.
     pub issuer: Issuer,
+    /// Level 7.
+    pub pages: Pages<B>,
+    /// Level 8.
+    pub segs: Segs,
+    /// Level 9.
+    pub types: Types,
+    /// Level 10.
+    pub dirs: Dirs,
+    /// Level 11.
+    pub life: Life,
+    /// Level 12.
+    pub procs: Procs,
+    /// Level 13.
+    pub codes: Codes,
     pub privates: ArrayVec<Private, 8>,
-    pub store: B,
 }
 
-// A capability of boot, with all rights.
-fn boot_cap(uid: u64) -> Cap
-    requires { uid < 2 ^ 64 - 1 }
-    ensures { result ≡ full uid }
+/// Makes a call of level 0 (docs/levels.md, "Calls"): the next identifier with all rights, and the next rises by one.
+/// It takes no memory.
+pub fn act_issuer(issuer: &mut Issuer, call: &LevelCall) -> LevelAnswer
+    requires { issuer.old < 2 ^ 64 - 1 }
+    ensures { (issuer.new, result) ≡ act0 issuer.old call.now }
 {
-    Issuer::new(Uid(uid)).fresh()
-}
-
-// The root as users have it.
-fn boot_root() -> Cap
-    ensures { result ≡ root }
-{
-    boot_cap(1).restrict(Rights::of(0x00df))
-}
-
-// The registers of user i at boot.
-fn boot_regs(i: u8) -> Registers
-    ensures { result ≡ regs_at_boot i }
-{
-    let i = u64::from(i);
-    let mut regs = Registers::zero();
-    regs.set(0, Word::Cap(boot_root()));
-    regs.set(1, Word::Cap(boot_cap(3 + 4 * i)));
-    regs.set(2, Word::Cap(boot_cap(4 + 4 * i)));
-    regs.set(3, Word::Cap(boot_cap(6 + 4 * i)));
-    regs
-}
-
-// The name space of user i at boot.
-fn boot_path(i: u8) -> Path
-    ensures { result ≡ full (home_of i) ∷ root ∷ [] }
-{
-    let mut path = Path::new();
-    path.push(boot_cap(4 + 4 * u64::from(i)));
-    path.push(boot_root());
-    path
-}
-
-// How many requests there are in all phases.
-fn count(phases: &[Vec<Request>]) -> u16
-    requires { sum_by (λ p. length p.items + 1) phases.now ≤ 241 }
-    ensures { result ≡ length (requests_of (record { name = []; phases = map (λ p. p.items) phases.now })) }
-{
-    let mut all = 0;
-    'phases: for phase in phases {
-        all += phase.len() as u16;
-    }
-    all
-}
-
-// User i's own part at boot.
-fn boot_user(i: u8, phases: &[Vec<Request>]) -> Private
-    requires { sum_by (λ p. length p.items + 1) phases.now ≤ 241 }
-    ensures { result ≡ user_at_boot i (record { name = []; phases = map (λ p. p.items) phases.now }) }
-{
-    Private::new(
-        i,
-        Uid(3 + 4 * u64::from(i)),
-        count(phases),
-        boot_regs(i),
-        boot_path(i),
-    )
+    let _call = call;
+    LevelAnswer::New(issuer.fresh())
 }
 
 impl<B: Store> Levels<B> {
-    /// The states at boot (docs/system.md, "Boot"). It makes no call of the store. The number of frames has no
-    /// effect today, and no memory is taken.
-    pub fn boot(
-        _alloc: Global,
-        script: &Script,
-        frames: u16,
-        store: B,
-    ) -> Result<Levels<B>, AllocError>
-        requires script { IsWellFormed script.now }
-        requires least { 8 ≤ frames }
-        requires most { frames ≤ 256 }
-        ensures booted { IfOk result (λ l. system_of script.now l ≡ boot_system script.now) }
-        ensures store { IfOk result (λ l. l.store ≡ store) }
+    /// Makes a call of its level, where its condition holds (docs/levels.md, "Calls"). A refusal is an answer, and
+    /// changes nothing. A fault leaves all levels as they were: want of memory, or `Store` only where the store's
+    /// count of faults rose in the call.
+    pub fn act(
+        &mut self,
+        alloc: Global,
+        level: Level,
+        call: &LevelCall,
+    ) -> Result<LevelAnswer, LevelFault>
+        requires level { level_of call.now ≡ level }
+        requires can { Can (levels_of self.old) call.now }
+        ensures made { IfOk result (λ answer. (levels_of self.new, answer) ≡ act_of (levels_of self.old) call.now) }
+        ensures kept { OnErr result (levels_of self.new ≡ levels_of self.old) }
+        ensures privates { self.new.privates ≡ self.old.privates }
+        ensures cause { IsLicensed (B.faults self.old.pages.store) (B.faults self.new.pages.store) result }
     {
-        let _frames = frames;
-        let mut privates = ArrayVec::new();
-        'users: for (i, user) in script.users().iter().enumerate() {
-            privates.push(boot_user(i as u8, user.phases()));
+        match level {
+            Level::L13 => self.codes.act(alloc, call),
+            Level::L12 => self.procs.act(alloc, call),
+            Level::L11 => self.life.act(alloc, call),
+            Level::L10 => self.dirs.act(alloc, call),
+            Level::L9 => self.types.act(alloc, call),
+            Level::L8 => self.segs.act(alloc, call),
+            Level::L7 => self.pages.act(alloc, call),
+            Level::L0 => Ok(act_issuer(&mut self.issuer, call)),
         }
-        Ok(Levels {
-            issuer: Issuer::new(Uid(3 + 4 * script.users().len() as u64)),
-            privates,
-            store,
-        })
     }
 }

@@ -1,10 +1,14 @@
 //! The levels together: boot, plans, and runs of a script on one thread.
 #![tactic(auto)]
 
+mod boot;
+mod laws;
 mod levels;
-mod plan;
+mod perform;
+mod run;
 mod serial;
 mod serve;
 
-pub use levels::Levels;
-pub use serial::run_serial;
+pub use laws::runs_stand;
+pub use levels::{Levels, act_issuer};
+pub use run::{Core, Parts};

@@ -1,36 +1,42 @@
 // One request of one user.
 ghost use Rattle.std.specs.Prelude.{◌≡◌, IfOk};
 ghost use Rattle.psos_core.specs.System.{system_of};
+ghost use Rattle.psos_core.specs.Faults.{MayStop};
 ghost use Rattle.psos_core.specs.Serving.{Asks, IsServed};
 
 use crate::Levels;
-use crate::plan::run_plan;
-use psos_calls::{Entry, Request, Script};
+use crate::perform::perform;
+use psos_calls::{Entry, Request, Script, Trace};
 use psos_io::Store;
-use std::alloc::{AllocError, Global};
+use psos_journal::StopCause;
+use std::alloc::Global;
 
-/// Serves the next request of user u. A refusal is for memory.
-pub fn serve<B: Store>(
+/// Serves the next request of user u: runs its plan, settles its effect and gives its entry. It stops for want of
+/// memory, or for a fault of the store, which its count shows; no entry is given then.
+pub(crate) fn serve<B: Store>(
     alloc: Global,
     script: &Script,
     levels: &mut Levels<B>,
+    trace: &mut Trace,
     u: u8,
     request: &Request,
-) -> Result<Entry, AllocError>
-    requires { Asks script.now (system_of script.now levels.old) u request.now }
-    ensures ok { IfOk result (IsServed script.now (system_of script.now levels.old) u
-        (system_of script.now levels.new)) }
-    ensures store { levels.new.store ≡ levels.old.store }
+) -> Result<Entry, StopCause>
+    requires { Asks script.now (system_of levels.old) u request.now }
+    ensures served { IfOk result (IsServed script.now (system_of levels.old) u (system_of levels.new)) }
+    ensures cause { MayStop (B.faults levels.old.pages.store) (B.faults levels.new.pages.store) result }
 {
-    let me = &levels.privates.as_slice()[u as usize];
-    let closing = run_plan(alloc, &mut levels.issuer, me, request)?;
-    let me = &mut levels.privates.as_mut_slice()[u as usize];
-    me.settle(&closing.effect, script);
+    trace.clear();
+    let (n, m) = levels.privates.as_slice()[u as usize].place();
+    let closing = perform(alloc, levels, u, request, trace)?;
+    let Ok(steps) = trace.calls(alloc) else {
+        return Err(StopCause::Memory);
+    };
+    levels.privates.as_mut_slice()[u as usize].settle(&closing.effect, script);
     Ok(Entry {
         user: u,
-        n: me.answered(),
-        m: 0,
-        steps: closing.steps,
+        n,
+        m,
+        steps,
         reply: closing.reply,
     })
 }

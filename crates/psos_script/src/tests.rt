@@ -131,10 +131,10 @@ fn first_faults(rt: HostRuntime) -> Result<(), Fail> {
         (b"code a\nend x\n", b"line 2: too many words"),
         (b"user a b", b"line 1: too many words"),
         (b"user a\nphase x", b"line 2: too many words"),
-        (b"user a\nread r4 r3 0", b"line 2: not built"),
+        (b"user a\nlist r2", b"line 2: not built"),
         (
-            b"user a\nwrite r3 0 r2\nwindow r4 r3 0 1",
-            b"line 2: not built",
+            b"user a\nwrite r3 0 r2\nwindow r4 r3 0 1\nunbind r2 x",
+            b"line 4: not built",
         ),
         (b"user a\nmkobj r4 r5 r2 x 3", b"line 2: not built"),
         (b"user a\nfind r4 0-_z", b"line 2: not built"),

@@ -40,6 +40,7 @@ impl Verb {
     {
         match self {
             Verb::Mint | Verb::Restrict | Verb::Set | Verb::Move | Verb::Add => true,
+            Verb::Read | Verb::Write | Verb::Window | Verb::Length => true,
             _ => false,
         }
     }

@@ -7,7 +7,11 @@ use Rattle.psos_calls.specs.declared.entry.Entry.{Entry}
 use Rattle.psos_calls.specs.Script.{Script}
 use Rattle.psos_model.specs.Spelling.{IsScript}
 use Rattle.psos_model.specs.Replay.{System, order_of}
-use Rattle.psos_model.specs.Output.{output}
+use Rattle.psos_model.specs.Transcript.{transcript}
+use Rattle.psos_model.specs.Output.{output, printed}
+use Rattle.psos_print.specs.declared.fault.PrintFault.{PrintFault}
+use Rattle.psos_print.specs.declared.fault.PrintFault.TheVariants as faults
+use Rattle.psos_print.specs.Places.{entries_text}
 use Rattle.psos_script.specs.declared.cause.Cause.{Cause}
 use Rattle.psos_script.specs.Fault.{fault_of}
 use Rattle.psos_script.specs.CauseText.{cause_text}
@@ -62,6 +66,22 @@ pub record IsNoRun {X : Type 0} (entries : List Entry) (left : Option X) : Type 
   pub entries-none : entries ≡ []
   pub left-none : left ≡ None
 
+-- a whole run was made, and a front of its transcript was written
+pub record IsBroken (before now : Option (List ℕ)) (s : Script) : Type 0 where
+  pub entries : List Entry
+  pub left : System
+  pub run : IsWholeRun s entries left
+  pub text : AppendsFront before now (transcript s (order_of entries))
+
+-- status 6: nothing was written, or the script was read, a whole run was made, and a front of its transcript was written
+abbrev pub IsUnfinished : Option (List ℕ) → Option (List ℕ) → Option (List ℕ) → Option (List ℕ) → Type 0
+IsUnfinished input_before input_now before now = Keeps before now ⊎ ((s : Script) × WasRead input_before input_now s × IsBroken before now s)
+
+-- what is written of a run after a fault: a front of the transcript for want of memory, and else a front of the whole
+abbrev pub LeavesFront : Option (List ℕ) → Option (List ℕ) → Script → List Entry → PrintFault → Type 0
+LeavesFront before now s entries (faults.Memory e) = AppendsFront before now (entries_text s entries)
+LeavesFront before now s entries faults.Write = AppendsFront before now (printed s entries)
+
 -- how a run of a script ends: printed, cut, or out of memory
 pub record RunEnds (before now : Option (List ℕ)) (faults_before faults_now : ℕ) (s : Script) (status : ℕ) (entries : List Entry) (left : Option System) : Type 0 where
   pub which : (status ≡ 0) ⊎ (status ≡ 4) ⊎ (status ≡ 6)
@@ -70,7 +90,7 @@ pub record RunEnds (before now : Option (List ℕ)) (faults_before faults_now : 
   pub cut : status ≡ 4 → AppendsFront before now (output s (order_of entries))
   pub cause : status ≡ 4 → Rose faults_before faults_now
   pub none : status ≡ 6 → IsNoRun entries left
-  pub memory : status ≡ 6 → Keeps before now
+  pub memory : status ≡ 6 → Keeps before now ⊎ IsBroken before now s
   pub later : faults_before ≤ faults_now
 
 abbrev pub IsSerialStatus : ℕ → Type 0

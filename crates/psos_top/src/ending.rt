@@ -1,16 +1,18 @@
 // The ends of a command.
-ghost use Rattle.std.specs.Prelude.{◌≡◌, ◌≤◌, ◌⊎◌, None, IfOk, IfSome, option_map};
-ghost use Rattle.std.specs.Io.KnownBytes.{Keeps};
+ghost use Rattle.std.specs.Prelude.{◌≡◌, ◌≤◌, ◌<◌, ◌^◌, ◌⊎◌, None, IfOk, IfErr, IfSome, OnOk, option_map};
+ghost use Rattle.std.specs.Io.KnownBytes.{Appends, Keeps};
+ghost use Rattle.psos_model.specs.Output.{calls_of, printed};
+ghost use Rattle.psos_print.specs.Pieces.{HasReason};
 ghost use Rattle.psos_core.specs.System.{system_of};
 ghost use Rattle.psos_core.specs.Serving.{IsWholeRun};
-ghost use Rattle.psos_top.specs.Outcome.{fault_line, Wrote, IsNoRun, RunEnds};
+ghost use Rattle.psos_top.specs.Outcome.{fault_line, Wrote, IsNoRun, LeavesFront, RunEnds};
 
 use crate::outcome::Outcome;
 use psos_calls::{Entry, Script};
 use psos_core::Levels;
 use psos_io::{Sink, Store, put_all};
 use psos_journal::Entries;
-use psos_print::print_run;
+use psos_print::{PrintFault, done_line, put_transcript};
 use psos_script::{ScriptFault, put_cause};
 use psos_text::put_number;
 use std::alloc::{AllocError, Global};
@@ -89,7 +91,30 @@ pub fn refuse<K: Sink, B: Store>(
     stop(alloc, output, 2, &text, store)
 }
 
-/// Prints a whole run.
+// Writes the transcript, and then the last line.
+fn put_run<K: Sink>(
+    alloc: Global,
+    script: &Script,
+    entries: &Entries<Entry>,
+    output: &mut K,
+) -> Result<(), PrintFault>
+    requires { calls_of entries.now < 2 ^ 64 }
+    ensures whole { OnOk result (Appends (K.took output.old) (K.took output.new) (printed script.now entries.now)) }
+    ensures front { IfErr result (LeavesFront (K.took output.old) (K.took output.new) script.now entries.now) }
+    ensures later { K.faults output.old ≤ K.faults output.new }
+    ensures reason { IfErr result (HasReason (K.faults output.old) (K.faults output.new)) }
+{
+    put_transcript(alloc, script, entries, output)?;
+    let Ok(line) = done_line(alloc, entries) else {
+        return Err(PrintFault::Memory(AllocError));
+    };
+    if put_all(output, &line).is_err() {
+        return Err(PrintFault::Write);
+    }
+    Ok(())
+}
+
+/// Prints a whole run. For want of memory there is then no run, though a front of its transcript may be written.
 pub fn finish<K: Sink, B: Store>(
     alloc: Global,
     script: &Script,
@@ -97,18 +122,19 @@ pub fn finish<K: Sink, B: Store>(
     levels: Levels<B>,
     output: &mut K,
 ) -> Outcome<B>
-    requires run { IsWholeRun script.now entries (system_of script.now levels) }
+    requires run { IsWholeRun script.now entries (system_of levels) }
     ensures ends { RunEnds (K.took output.old) (K.took output.new) (K.faults output.old) (K.faults output.new)
-        script.now result.status result.entries (option_map (system_of script.now) result.levels) }
-    ensures kept { IfSome result.levels (λ l. l.store ≡ levels.store) }
+        script.now result.status result.entries (option_map (λ l. system_of l) result.levels) }
     ensures store { result.store ≡ None }
-    ensures store_faults { result.store_faults ≡ B.faults levels.store }
+    ensures levels { IfSome result.levels (λ l. l ≡ levels) }
+    ensures store_faults { result.store_faults ≡ B.faults levels.pages.store }
 {
-    let Ok(text) = print_run(alloc, script, &entries) else {
-        return no_run(alloc, 6, levels.store.faults());
+    let status = match put_run(alloc, script, &entries, output) {
+        Ok(()) => 0,
+        Err(PrintFault::Write) => 4,
+        Err(PrintFault::Memory(_)) => return no_run(alloc, 6, levels.pages.store_faults()),
     };
-    let status = if put_all(output, &text).is_ok() { 0 } else { 4 };
-    let store_faults = levels.store.faults();
+    let store_faults = levels.pages.store_faults();
     Outcome {
         status,
         entries,

@@ -1,11 +1,10 @@
 // The program.
 ghost use Rattle.std.specs.Prelude.{◌≡◌, ◌≤◌, ◌↔◌, None, IfSome, map, string_bytes, option_map};
-ghost use Rattle.std.specs.Io.KnownBytes.{Keeps};
 ghost use Rattle.psos_io.specs.Causes.{Rose};
 ghost use Rattle.psos_calls.specs.Script.{Script as Spelled};
 ghost use Rattle.psos_core.specs.System.{system_of};
 ghost use Rattle.psos_top.specs.Words.{frames_asked};
-ghost use Rattle.psos_top.specs.Outcome.{read_fault_text, usage_text, IsRefused, IsStatus, HasNoRun, Wrote, IsPrinted, IsCut, IsNoRun};
+ghost use Rattle.psos_top.specs.Outcome.{read_fault_text, usage_text, IsRefused, IsStatus, HasNoRun, Wrote, IsPrinted, IsCut, IsUnfinished, IsNoRun};
 
 use crate::ending::stop;
 use crate::outcome::Outcome;
@@ -36,7 +35,7 @@ pub fn psos_main<R: Threads + Wait + Sync, I: Source, K: Sink, B: Store + Send, 
 
     // At 0, what was written is the output of the flat objects for the order that the entries record.
     ensures printed { result.status ≡ 0 → (s : Spelled) × IsPrinted (I.left input.old) (I.left input.new)
-        (K.took output.old) (K.took output.new) result.entries (option_map (system_of s) result.levels) s }
+        (K.took output.old) (K.took output.new) result.entries (option_map (λ l. system_of l) result.levels) s }
 
     // At 2, the bytes are no script, and their first fault was written.
     ensures refused { result.status ≡ 2 → IsRefused (I.left input.old)
@@ -49,19 +48,20 @@ pub fn psos_main<R: Threads + Wait + Sync, I: Source, K: Sink, B: Store + Send, 
     // At 4, the sink failed.
     ensures write_fault { result.status ≡ 4 → Rose (K.faults output.old) (K.faults output.new) }
     ensures cut { result.status ≡ 4 → (s : Spelled) × IsCut (I.left input.old) (I.left input.new)
-        (K.took output.old) (K.took output.new) result.entries (option_map (system_of s) result.levels) s }
+        (K.took output.old) (K.took output.new) result.entries (option_map (λ l. system_of l) result.levels) s }
 
-    // At 6, nothing was written.
-    ensures memory { result.status ≡ 6 → Keeps (K.took output.old) (K.took output.new) }
+    // At 6, a front of the transcript was written, or nothing.
+    ensures memory { result.status ≡ 6 → IsUnfinished (I.left input.old) (I.left input.new)
+        (K.took output.old) (K.took output.new) }
 
     // At 1, 2, 3 and 6 no run was made.
     ensures none { HasNoRun result.status → IsNoRun result.entries result.levels }
 
     ensures source_faults { I.faults input.old ≤ I.faults input.new }
     ensures sink_faults { K.faults output.old ≤ K.faults output.new }
-    ensures kept { IfSome result.levels (λ l. l.store ≡ store) }
     ensures store { result.store ≡ None }
-    ensures store_faults { result.store_faults ≡ B.faults store }
+    ensures store_faults { IfSome result.levels (λ l. result.store_faults ≡ B.faults l.pages.store) }
+    ensures store_later { B.faults store ≤ result.store_faults }
 {
     let Some(frames) = read_words(words) else {
         return stop(

@@ -1,24 +1,52 @@
-use Rattle.std.proofs.Common.{◌≡◌, refl, sym, ap, ◌∙◌, subst, get_or, List}
-use Rattle.psos_calls.specs.User.{User, after, CanSettle}
-use Rattle.psos_core.specs.System.{system}
-use Rattle.psos_core.proofs.Requests.{can_settle}
-use Rattle.psos_core.proofs.Served.{found_is, served_by_plan}
+use Rattle.std.proofs.Common.{◌≡◌, List, length, get_or, sym, ap, subst, ◌∙◌, arith}
+use Rattle.psos_calls.specs.User.{User, CanSettle, place_of, after}
+use Rattle.psos_core.specs.System.{system_of}
+use Rattle.psos_core.proofs.Found.{nobody}
+use Rattle.psos_core.proofs.Served.{ranged, within as user_within, is_user, me_is, me_there, can_run, few_calls, can_settle, served}
 use Rattle.psos_core.proofs.serve.serve.Goals as goal
+
+pub perform-requires : goal.perform-requires
+perform-requires g c κs within =
+    let s = c.args.script.now in
+    let y = system_of c.args.levels.now in
+    let u = c.args.u in
+    let r = c.args.request.now in
+    let asks = c.requires in
+    let me = get_or y.users u nobody in
+    (within, (me_there s y u r asks, (asks.built, (ranged s y u r asks, (can_run s y u r asks me (me_is s y u r asks), (few_calls s y u r asks me, c.clear.ensures))))))
+
+pub bounds-as_mut_slice-u : goal.bounds-as_mut_slice-u
+bounds-as_mut_slice-u g c =
+    let y = system_of c.args.levels.now in
+    let same : c.as_mut_slice.result.now ≡ y.users = c.as_mut_slice.ensures.value ∙ ap (λ p. p.items) c.in_ok-closing.ensures.privates in
+    omega (arith, ap (λ (xs : List User). length xs) same, user_within c.args.script.now y c.args.u c.args.request.now c.requires)
 
 pub settle-requires : goal.settle-requires
 settle-requires g c =
-    let l = system c.args.script.now c.args.levels.now.issuer c.args.levels.now.privates.items in
+    let s = c.args.script.now in
+    let y = system_of c.args.levels.now in
+    let u = c.args.u in
+    let r = c.args.request.now in
     let asks = c.requires in
-    let is = found_is c.args.script.now c.args.levels.now.issuer c.args.levels.now.privates.items _ c.args.u c.args.request.now c.index-as_mut_slice-u.result asks c.as_mut_slice.ensures.value c.index-as_mut_slice-u.is in
-    let same : asks.user ≡ _ = sym is ∙ c.index-as_mut_slice-u.is in
+    let same : c.as_mut_slice.result.now ≡ y.users = c.as_mut_slice.ensures.value ∙ ap (λ p. p.items) c.in_ok-closing.ensures.privates in
+    let found = c.index-as_mut_slice-u.result in
+    let is = is_user s y u r asks c.as_mut_slice.result.now found same c.index-as_mut_slice-u.is in
     let P : User → Type 0 = λ x. CanSettle x c.in_ok-closing.closing.effect in
-    subst P same (can_settle asks.user c.in_ok-closing.closing.effect (c.in_ok-closing.ensures.ok l.levels refl).fits asks.closed asks.few)
+    subst P c.index-as_mut_slice-u.is (can_settle s y u r asks found (get_or y.users u nobody) _ _ _ _ is (me_is s y u r asks) c.in_ok-closing.ensures.ran)
 
-pub returns-clause-ok : goal.returns-clause-ok
-returns-clause-ok g c =
-    let xs = c.args.levels.now.privates.items in
-    let l = system c.args.script.now c.args.levels.now.issuer xs in
-    let me = c.index-as_slice-u.result in
-    let read : me ≡ get_or xs c.args.u me = c.index-as_slice-u.is ∙ ap (λ (ys : List User). get_or ys c.args.u me) c.as_slice.ensures.value in
-    served_by_plan c.args.script.now c.args.levels.now.issuer _ xs _ c.args.u c.args.request.now me _ _ _ _ _ _ c.requires read c.as_mut_slice.ensures.value c.index-as_mut_slice-u.is (c.in_ok-closing.ensures.ok l.levels refl)
-    (c.settle.ensures ∙ ap (λ (z : User). after c.args.script.now z c.in_ok-closing.closing.effect) (sym c.index-as_mut_slice-u.is)) c.answered.ensures
+pub returns-clause-served : goal.returns-clause-served
+returns-clause-served g c =
+    let s = c.args.script.now in
+    let y = system_of c.args.levels.now in
+    let u = c.args.u in
+    let r = c.args.request.now in
+    let asks = c.requires in
+    let users-are : c.perform.new.levels.privates.items ≡ y.users = ap (λ p. p.items) c.in_ok-closing.ensures.privates in
+    let found = c.index-as_mut_slice-u.result in
+    let is = is_user s y u r asks c.as_mut_slice.result.now found (c.as_mut_slice.ensures.value ∙ users-are) c.index-as_mut_slice-u.is in
+    let reader = c.index-as_slice-u.result in
+    let read = is_user s y u r asks c.as_slice.result.now reader c.as_slice.ensures.value c.index-as_slice-u.is in
+    let settles = c.settle.ensures ∙ ap (λ (x : User). after s x c.in_ok-closing.closing.effect) (sym c.index-as_mut_slice-u.is) in
+    let placed = c.place-n.ensures ∙ ap place_of read in
+    rw (c.in-Ok.ensures) (served s y u r asks (get_or y.users u nobody) found c.settle.new.self c.perform.new.levels.privates.items c.as_mut_slice.result.now _ _ c.in_ok-closing.closing.reply c.in_ok-closing.closing.effect c.place-n.result.0 c.place-n.result.1
+    (me_is s y u r asks) is users-are c.as_mut_slice.ensures.value c.in_ok-closing.ensures.ran settles placed)

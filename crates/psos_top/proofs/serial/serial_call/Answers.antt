@@ -1,4 +1,4 @@
-use Rattle.std.proofs.Common.{◌≡◌, ℕ, List, Option, Some, sym, ap, ◌∙◌, subst}
+use Rattle.std.proofs.Common.{◌≡◌, ℕ, List, Some, sym, ap, ◌∙◌, subst}
 use Rattle.psos_calls.specs.Script.{Script}
 use Rattle.psos_model.specs.Spelling.{IsScript}
 use Rattle.psos_script.specs.Fault.{fault_of}

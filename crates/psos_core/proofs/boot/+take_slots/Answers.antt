@@ -1,0 +1,12 @@
+use Rattle.std.proofs.Common.{ap, ◌-◌, arith}
+use Rattle.psos_calls.specs.Level7.{Pages}
+use Rattle.psos_calls.specs.declared.level_answer.LevelAnswer.{LevelAnswer}
+use Rattle.psos_core.proofs.Booted.{room_left, took}
+use Rattle.psos_core.proofs.boot.+take_slots.Goals as goal
+
+pub act-requires : goal.act-requires
+act-requires g t c = room_left _ (c.args.count - 1) (omega (arith, c.requires.few, c.if-count-eq0.false)) c.in_ok-take_slots.ensures.slots
+
+pub returns-in-Ok-clause-slots : goal.returns-in-Ok-clause-slots
+returns-in-Ok-clause-slots g t c =
+    took _ _ (c.args.count - 1) c.args.count (omega (arith, c.requires.few, c.if-count-eq0.false)) (omega (arith, c.if-count-eq0.false)) c.in_ok-take_slots.ensures.slots (ap (λ (x : Pages × LevelAnswer). x.0) c.in-Ok.ensures.done)

@@ -1,0 +1,128 @@
+// A run of a script over the levels, on one thread.
+ghost use Rattle.std.specs.Prelude.{◌≡◌, [], None, Some, IfOk, OnOk, IfErr};
+ghost use Rattle.psos_model.specs.Flat.{Flat};
+ghost use Rattle.psos_core.specs.System.{system_of};
+ghost use Rattle.psos_core.specs.Faults.{MayStop};
+ghost use Rattle.psos_core.specs.Serving.{Start, Starts, IsRunFrom};
+ghost use Rattle.psos_core.specs.Parts.{levels_of_stop, store_of_stop};
+
+use crate::Levels;
+use crate::serial::serve_phases;
+use psos_calls::{Entry, Script, Trace};
+use psos_io::Store;
+use psos_journal::{Entries, StopCause};
+use std::alloc::{AllocError, Global};
+
+/// A run of a script over the levels (docs/levels.md, "Levels"). Its fields are there to be read.
+#[derive(Drop)]
+pub struct Core<B: Store> {
+    pub script: Script,
+    pub levels: Levels<B>,
+    /// Of the requests that closed, in their order.
+    pub entries: Entries<Entry>,
+    /// Why the run was stopped, if it was.
+    pub stopped: Option<StopCause>,
+    // The calls of the open request; it is emptied and used again.
+    trace: Trace,
+}
+
+/// What a run leaves.
+#[derive(Drop)]
+pub struct Parts<B: Store> {
+    /// Of the requests that closed, in their order.
+    pub entries: Entries<Entry>,
+    /// The levels' states, where the run was not stopped.
+    pub levels: Option<Levels<B>>,
+    /// The backing store, where it was.
+    pub store: Option<B>,
+    /// How many calls of the store failed so far.
+    pub store_faults: u64,
+    /// Why the run was stopped, if it was.
+    pub stopped: Option<StopCause>,
+}
+
+// The backing store of levels.
+fn into_store<B: Store>(levels: Levels<B>) -> B
+    ensures { result ≡ levels.pages.store }
+{
+    levels.pages.into_store()
+}
+
+impl<B: Store> Core<B> {
+    /// A run that is to start from these levels, which stand for a sound flat state in which no request of the script
+    /// is answered, no body is open and the next identifier is at most 2^63. It takes no memory today.
+    pub fn new(alloc: Global, script: Script, levels: Levels<B>) -> Result<Core<B>, AllocError>
+        requires { (f : Flat) × Starts script (system_of levels) f }
+        ensures script { IfOk result (λ core. core.script ≡ script) }
+        ensures levels { IfOk result (λ core. core.levels ≡ levels) }
+        ensures entries { IfOk result (λ core. core.entries ≡ []) }
+        ensures going { IfOk result (λ core. core.stopped ≡ None) }
+    {
+        Ok(Core {
+            script,
+            levels,
+            entries: Entries::empty(alloc),
+            stopped: None,
+            trace: Trace::new(),
+        })
+    }
+
+    /// Runs the script to its end: phase by phase, and in each phase user by user in the order of the script. Nothing
+    /// was run before, and the run is not stopped. It stops for want of memory, or for a fault of the store, which its
+    /// count shows; no entry is added then.
+    pub fn serial(&mut self, alloc: Global) -> Result<(), StopCause>
+        ghost flat: { Flat }
+        requires start { Starts self.old.script (system_of self.old.levels) flat }
+        requires fresh { self.old.entries ≡ [] }
+        requires going { self.old.stopped ≡ None }
+        ensures run { OnOk result (IsRunFrom self.old.script (system_of self.old.levels) flat
+            self.new.entries (system_of self.new.levels)) }
+        ensures script { self.new.script ≡ self.old.script }
+        ensures going { OnOk result (self.new.stopped ≡ None) }
+        ensures stopped { IfErr result (λ cause. self.new.stopped ≡ Some cause) }
+        ensures cause { MayStop (B.faults self.old.levels.pages.store) (B.faults self.new.levels.pages.store) result }
+    {
+        let ran = serve_phases(
+            alloc,
+            &self.script,
+            &mut self.levels,
+            &mut self.trace,
+            &mut self.entries,
+        );
+        if let Err(cause) = ran {
+            self.stopped = Some(cause);
+        }
+        ran
+    }
+
+    /// The script, and what the run leaves. The levels are given where it was not stopped, and the store where it was.
+    pub fn into_parts(self) -> (Script, Parts<B>)
+        ensures script { result.0 ≡ self.script }
+        ensures entries { result.1.entries ≡ self.entries }
+        ensures levels { result.1.levels ≡ levels_of_stop self.stopped self.levels }
+        ensures store { result.1.store ≡ store_of_stop self.stopped self.levels.pages.store }
+        ensures store_faults { result.1.store_faults ≡ B.faults self.levels.pages.store }
+        ensures stopped { result.1.stopped ≡ self.stopped }
+    {
+        let Core {
+            script,
+            levels,
+            entries,
+            stopped,
+            trace: _,
+        } = self;
+        let store_faults = levels.pages.store_faults();
+        let (levels, store) = match stopped {
+            None => (Some(levels), None),
+            Some(_cause) => (None, Some(into_store(levels))),
+        };
+        let parts = Parts {
+            entries,
+            levels,
+            store,
+            store_faults,
+            stopped,
+        };
+        (script, parts)
+    }
+}
