@@ -1,11 +1,8 @@
 // Worked cases, from the words and bytes that go in to the bytes that come out.
 ghost use Rattle.std.specs.Prelude.{◌≤◌};
 
-use crate::{psos_main, serial_call};
+use crate::psos_main;
 use psos_io::{MemSink, MemSource, NoGate, NoStore, Sink, Source, StdSink, StdSource};
-use psos_print::put_line;
-use psos_rows::{is_well_formed, serial_lines};
-use psos_script::read_script;
 use std::alloc::Global;
 use std::process::Abort;
 use std::sync::Wait;
@@ -148,50 +145,6 @@ fn words_and_windows(rt: HostRuntime) -> Result<(), Fail> {
     ];
     for (script, text) in cases {
         expect_both(&rt, script, 0, text)?;
-    }
-    Ok(())
-}
-
-// The transcript that the plain program gives.
-fn flat_text<R: Abort>(rt: &R, alloc: Global, bytes: &[u8]) -> Result<Vec<u8>, Fail> {
-    let Ok(script) = read_script(alloc, bytes) else {
-        panic!(rt; "no script");
-    };
-    if !is_well_formed(&script) {
-        panic!(rt; "no script");
-    }
-    let lines = serial_lines(alloc, &script)?;
-    let mut text = Vec::new(alloc);
-    for (u, user) in script.users().iter().enumerate() {
-        for line in lines.iter() {
-            if usize::from(line.user) == u {
-                put_line(alloc, &mut text, user.name(), line)?;
-            }
-        }
-    }
-    Ok(text)
-}
-
-#[test]
-fn the_flat_objects_answer_the_same(rt: HostRuntime) -> Result<(), Fail> {
-    let scripts: [&[u8]; 3] = [
-        b"user alice\nwrite r3 1 r2\nphase\nwindow r4 r3 60 4\nset r6 4\nwrite r4 3 r6\nread r7 r3 63\nread r5 r4 4\nuser bob\nmint r4\nwrite r3 0 r4\nphase\nread r5 r3 0\nlength r6 r5\nlength r6 r3\n",
-        b"user a\nrestrict r5 r3 ffef\nwrite r5 0 r2\nwindow r6 r5 1 2\nwrite r6 0 r2\nread r7 r6 1\nuser b\nphase\nmint r4\nphase\nadd r5 r6 r7\nadd r5 r1 r7\nuser c\nread r9 r3 64\nphase\nwindow r9 r3 0 0\nwindow r9 r3 18446744073709551615 2\nlength r9 r1\nread r9 r0 0\n",
-        b"user a\nwrite r3 0 r3\nread r4 r3 0\nwindow r5 r4 0 64\nwindow r6 r5 63 1\nwindow r7 r6 0 1\nrestrict r8 r7 fff0\nwrite r7 0 r8\nwrite r7 0 r7\nread r9 r3 63\nlength r10 r9\nmove r11 r10\n",
-    ];
-    let alloc = rt.alloc();
-    for script in scripts {
-        let text = flat_text(&rt, alloc, script)?;
-        let mut input = MemSource::new(script.to_vec(alloc)?, 5000, Vec::new(alloc));
-        let mut output = MemSink::new(5000, Vec::new(alloc));
-        output.reserve(alloc, 2000)?;
-        let outcome = serial_call(alloc, 32, &mut input, &mut output, NoStore::new());
-        assert_eq!(rt; outcome.status, 0);
-        assert!(rt; output.bytes().starts_with(&text));
-        assert_eq!(rt;
-            outcome.entries.len() as usize,
-            text.iter().filter(|b| **b == b'\n').count()
-        );
     }
     Ok(())
 }
