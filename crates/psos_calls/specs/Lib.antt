@@ -17,6 +17,7 @@ pub mod Locks
 pub mod Held
 pub mod Plan
 pub mod Trace
+pub mod Lists
 pub mod PlanParts
 pub mod PlanSeg
 pub mod PlanDir

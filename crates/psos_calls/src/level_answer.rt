@@ -1,4 +1,6 @@
 // What the levels answer.
+ghost use Rattle.std.specs.Prelude.{◌≡◌};
+
 use crate::{Kind, Refusal};
 use psos_caps::{Cap, Rights, Uid};
 use psos_words::{Page, Word};
@@ -20,4 +22,26 @@ pub enum LevelAnswer {
     New(Cap),
     /// Nothing was changed.
     No(Refusal),
+}
+
+impl LevelAnswer {
+    /// Becomes the same answer as another, in its place: words of a page are moved only where there is a page.
+    pub(crate) fn set(&mut self, other: &LevelAnswer)
+        ensures { self.new ≡ other.now }
+    {
+        match *other {
+            LevelAnswer::Done => *self = LevelAnswer::Done,
+            LevelAnswer::Entered { label, link } => *self = LevelAnswer::Entered { label, link },
+            LevelAnswer::Got(word) => *self = LevelAnswer::Got(word),
+            LevelAnswer::Is(kind) => *self = LevelAnswer::Is(kind),
+            LevelAnswer::Guard(guard) => *self = LevelAnswer::Guard(guard),
+            LevelAnswer::Rep(uid) => *self = LevelAnswer::Rep(uid),
+            LevelAnswer::At { page, off } => *self = LevelAnswer::At { page, off },
+            LevelAnswer::Slot(slot) => *self = LevelAnswer::Slot(slot),
+            LevelAnswer::Len(n) => *self = LevelAnswer::Len(n),
+            LevelAnswer::Whole(ref page) => *self = LevelAnswer::Whole(page.copied()),
+            LevelAnswer::New(cap) => *self = LevelAnswer::New(cap),
+            LevelAnswer::No(refusal) => *self = LevelAnswer::No(refusal),
+        }
+    }
 }

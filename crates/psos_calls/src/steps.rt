@@ -1,5 +1,5 @@
 // The calls of a closed request.
-ghost use Rattle.std.specs.Prelude.{◌≡◌, [], ◌∷◌, ◌++◌, length, OnOk, OnErr};
+ghost use Rattle.std.specs.Prelude.{◌≡◌, [], ◌∷◌, ◌++◌, length, IfOk, OnOk, OnErr};
 
 use crate::{Level, LevelCall};
 use std::alloc::{AllocError, Global};
@@ -29,6 +29,15 @@ impl Steps {
         Steps {
             calls: Vec::new(alloc),
         }
+    }
+
+    /// No call, with room for so many, so that no more memory is taken than these need. A refusal is for memory.
+    pub fn with_room(alloc: Global, n: usize) -> Result<Steps, AllocError>
+        ensures { IfOk result (λ s. s ≡ []) }
+    {
+        Ok(Steps {
+            calls: Vec::with_capacity(alloc, n)?,
+        })
     }
 
     /// One more call at the end. A refusal is for memory and changes nothing.

@@ -1,65 +1,75 @@
 // The calls of an open request.
-ghost use Rattle.std.specs.Prelude.{◌≡◌, ◌<◌, ◌≤◌, [], ◌∷◌, ◌++◌, length, IfOk};
+ghost use Rattle.std.specs.Prelude.{◌≡◌, ◌<◌, [], ◌∷◌, ◌++◌, length, IfOk};
 ghost use Rattle.psos_calls.specs.Trace.{calls_in};
 
-use crate::{Step, Steps};
-use arrayvec::ArrayVec;
+use crate::{Level, LevelAnswer, LevelCall, Step, Steps};
 use std::alloc::{AllocError, Global};
 use std::marker::Model;
 
-/// The calls that an open request made, with their answers, in order: at most 64. It is seen as their list.
+/// The calls that an open request made, with their answers, in order: at most 64. It is seen as their list. Its memory
+/// is taken when it is made, and used again for each request.
 #[derive(Drop)]
 pub struct Trace {
-    steps: ArrayVec<Step, 64>,
+    // The steps of this request, and behind them those that an earlier one left. There is room for 64.
+    steps: Vec<Step>,
+    // How many are of this request.
+    len: usize,
 }
 
 impl Model for Trace {
-    ghost use Rattle.std.specs.Prelude.{List};
+    ghost use Rattle.std.specs.Prelude.{◌≤◌, List, length, take, vec_capacity};
     ghost use Rattle.psos_calls.specs.declared.step.Step.{Step};
 
     ghost Value = { List Step };
 
-    ghost view = { λ t. t.steps.items };
+    ghost view = { λ t. take t.len t.steps.items };
+
+    ghost invariant = { λ t. (64 ≤ vec_capacity t.steps) × (t.len ≤ length t.steps.items) };
 }
 
 impl Trace {
-    /// No call.
-    pub fn new() -> Trace
-        ensures { result ≡ [] }
+    /// No call. A refusal is for memory.
+    pub fn new(alloc: Global) -> Result<Trace, AllocError>
+        ensures { IfOk result (λ t. t ≡ []) }
     {
-        Trace {
-            steps: ArrayVec::new(),
-        }
+        Ok(Trace {
+            steps: Vec::with_capacity(alloc, 64)?,
+            len: 0,
+        })
     }
 
-    /// One more call at the end. There is room for 64.
-    pub fn push(&mut self, step: Step)
+    /// One more call at the end, with its answer. There is room for 64. It takes no memory.
+    pub fn push(&mut self, level: Level, call: &LevelCall, answer: &LevelAnswer)
         requires { length self.old < 64 }
-        ensures { self.new ≡ self.old ++ step ∷ [] }
+        ensures { self.new ≡ self.old ++ record { level = level; call = call.now; answer = answer.now } ∷ [] }
     {
-        self.steps.push(step);
+        if self.len == self.steps.len() {
+            self.steps.push_reserved(Step::default());
+        }
+        self.steps[self.len].set(level, call, answer);
+        self.len += 1;
     }
 
     /// All of them, in order.
     pub fn as_slice(&self) -> &[Step]
         ensures { result.now ≡ self.now }
     {
-        self.steps.as_slice()
+        &self.steps[..self.len]
     }
 
     /// Forgets all of them. It takes no memory, and makes nothing anew.
     pub fn clear(&mut self)
         ensures { self.new ≡ [] }
     {
-        self.steps.clear();
+        self.len = 0;
     }
 
     /// The calls without their answers. A refusal is for memory.
     pub fn calls(&self, alloc: Global) -> Result<Steps, AllocError>
         ensures { IfOk result (λ s. s ≡ calls_in self.now) }
     {
-        let mut calls = Steps::empty(alloc);
-        'steps: for step in self.steps.as_slice() {
+        let mut calls = Steps::with_room(alloc, self.len)?;
+        'steps: for step in self.as_slice() {
             calls.push(step.level, step.call)?;
         }
         Ok(calls)

@@ -1,7 +1,6 @@
--- Words written over others, and the words of a page.
-use Rattle.std.proofs.Common.{◌≡◌, ℕ, zero, suc, ◌+◌, ◌<◌, ◌≤◌, List, [], ◌∷◌, ◌++◌, length, get_or, set, take, drop, refl, sym, ap, ◌∙◌, arith, append_assoc, add-one}
-use Rattle.std.proofs.lemmas.List.{length-set, take-append-drop, drop-set-lt, take_all, get_or-drop, length-drop}
-use Rattle.std.proofs.Math.Seq.{take-suc}
+-- Words written over others.
+use Rattle.std.proofs.Common.{◌≡◌, ℕ, zero, suc, ◌+◌, ◌<◌, ◌≤◌, List, [], ◌∷◌, ◌++◌, length, set, take, drop, refl, sym, ap, ◌∙◌, arith, append_assoc, add-one}
+use Rattle.std.proofs.lemmas.List.{length-set, take-append-drop, drop-set-lt}
 use Rattle.psos_words.specs.declared.word.Word.{Word}
 use Rattle.psos_calls.specs.Level7.{written}
 
@@ -32,27 +31,3 @@ written-parts words at (w ∷ new) h =
     let rest : drop (length new) (drop (suc at) (set words at w)) ≡ drop (suc (length new)) (drop at words) = ap (drop (length new)) (drop-set-lt (suc at) words at w (omega arith)) ∙ drop-later (length new) at words in
     let whole : written (set words at w) (at + 1) new ≡ take (at + 1) (set words at w) ++ (new ++ drop (length new) (drop (at + 1) (set words at w))) = written-parts (set words at w) (at + 1) new fits in
     rw (whole, add-one, take-set_here words at w room, rest) (append_assoc (take at words) (w ∷ []) (new ++ drop (suc (length new)) (drop at words)))
-
--- the first words of a page are those from a place on
-pub record IsCopied (words : List Word) (from : ℕ) (page : List Word) (n : ℕ) : Type 0 where
-  pub all : length page ≡ 64
-  pub first : take n page ≡ take n (drop from words)
-
--- none are copied yet
-pub copied-none : (words : List Word) (from : ℕ) (page : List Word) → length page ≡ 64 → IsCopied words from page 0
-copied-none words from page e = record { all = e; first = refl }
-
--- one more is copied
-pub copied-next : {words : List Word} {from : ℕ} {page : List Word} {n : ℕ} (d : Word) → IsCopied words from page n → n < 64 → from + n < length words
-    → IsCopied words from (set page n (get_or words (from + n) d)) (n + 1)
-copied-next {words} {from} {page} {n} d c h b =
-    let w : Word = get_or words (from + n) d in
-    record {
-      all = length-set page n w ∙ c.all;
-      first = rw add-one (take-set_here page n w (omega (arith, c.all, h)) ∙ ap (λ s. s ++ (w ∷ [])) c.first
-          ∙ sym (take-suc (drop from words) n d (omega (arith, b, length-drop from words)) ∙ ap (λ x. take n (drop from words) ++ (x ∷ [])) (get_or-drop from words n d)));
-    }
-
--- all are copied
-pub copied-all : {words : List Word} {from : ℕ} {page : List Word} → IsCopied words from page 64 → page ≡ take 64 (drop from words)
-copied-all {page = page} c = sym (take_all 64 page (omega (arith, c.all))) ∙ c.first

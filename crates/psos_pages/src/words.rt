@@ -44,9 +44,7 @@ pub fn page_at(words: &Words, at: usize) -> Page
     requires { at + 64 ≤ 512 }
     ensures { result ≡ take 64 (drop at words.now) }
 {
-    let mut page = Page::zero();
-    'words: for i in 0u8..64 {
-        page.put(i, words[at + i as usize]);
-    }
-    page
+    let mut page = [Word::Data(0); 64];
+    page.copy_from_slice(&words[at..at + 64]);
+    Page::of(page)
 }

@@ -32,6 +32,20 @@ impl Page {
         }
     }
 
+    /// A page of these words.
+    pub fn of(words: [Word; 64]) -> Page
+        ensures { result ≡ words }
+    {
+        Page { words }
+    }
+
+    /// A page of the same words.
+    pub fn copied(&self) -> Page
+        ensures { result ≡ self.now }
+    {
+        Page { words: self.words }
+    }
+
     /// Word i.
     pub fn get(&self, i: u8) -> Word
         requires { i < 64 }
