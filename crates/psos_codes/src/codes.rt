@@ -32,6 +32,8 @@ impl Model for Codes {
 }
 
 // Whether a word may be the linkage of a record: a record is a store of guard 1.
+// It stands apart, since an answer has room for a page, and the locals of `act` are filled at each call.
+#[inline(never)]
 fn admit(word: Word) -> LevelAnswer
     ensures { result ≡ admitted word }
 {
@@ -52,6 +54,7 @@ impl Codes {
     }
 
     // The record that a capability names, for one who may enter it.
+    #[inline(never)]
     fn enter(&self, cap: Cap) -> LevelAnswer
         ensures { result ≡ entered self.now cap }
     {

@@ -41,6 +41,8 @@ impl Dirs {
     }
 
     // The guard of the directory that a capability names, for one who has the right on it.
+    // It stands apart, since an answer has room for a page, and the locals of `act` are filled at each call.
+    #[inline(never)]
     fn at(&self, cap: Cap, right: Right) -> LevelAnswer
         ensures { result ≡ dir_at self.now cap right }
     {

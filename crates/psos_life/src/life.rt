@@ -40,6 +40,8 @@ impl Life {
     }
 
     // Whether one more may be enrolled.
+    // It stands apart, since an answer has room for a page, and the locals of `act` are filled at each call.
+    #[inline(never)]
     fn room(&self) -> LevelAnswer
         ensures { result ≡ room self.now }
     {

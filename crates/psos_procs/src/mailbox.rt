@@ -77,6 +77,8 @@ impl Mailbox {
     }
 
     // A word goes last.
+    // It stands apart, since an answer has room for a page, and the locals of `act` are filled at each call.
+    #[inline(never)]
     fn post(&mut self, to: Cap, word: Word) -> LevelAnswer
         ensures row { (self.new.words, result) ≡ box_posted (process_of self.old.number) self.old.words to word }
         ensures number { self.new.number ≡ self.old.number }
@@ -99,6 +101,7 @@ impl Mailbox {
     }
 
     // The first word goes, and is the answer.
+    #[inline(never)]
     fn draw(&mut self, uid: Uid) -> LevelAnswer
         ensures row { (self.new.words, result) ≡ act_box (process_of self.old.number) self.old.words (LevelCall.Draw uid) }
         ensures number { self.new.number ≡ self.old.number }

@@ -149,6 +149,8 @@ impl Segs {
     }
 
     // Where a word lies, or why the capability does not lead there.
+    // It stands apart, since an answer has room for a page, and the locals of `act` are filled at each call.
+    #[inline(never)]
     fn locate(&self, cap: Cap, off: u64, need: Right, word: Option<Word>) -> LevelAnswer
         ensures { result ≡ locate self.now cap off need word }
     {
@@ -194,6 +196,7 @@ impl Segs {
     }
 
     // Whether a window may be made, or why not.
+    #[inline(never)]
     fn room(&self, cap: Cap, base: u64, len: u64) -> LevelAnswer
         ensures { result ≡ win_room self.now cap base len }
     {
@@ -232,6 +235,7 @@ impl Segs {
     }
 
     // How many words the capability leads to.
+    #[inline(never)]
     fn length(&self, cap: Cap) -> LevelAnswer
         ensures { result ≡ length_of self.now cap }
     {

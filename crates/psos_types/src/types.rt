@@ -57,6 +57,8 @@ impl Types {
     }
 
     // Whether objects of a type may be made.
+    // It stands apart, since an answer has room for a page, and the locals of `act` are filled at each call.
+    #[inline(never)]
     fn at(&self, cap: Cap) -> LevelAnswer
         ensures { result ≡ type_at self.now cap }
     {
@@ -70,6 +72,7 @@ impl Types {
     }
 
     // The representation capability of an object, for one who has its type.
+    #[inline(never)]
     fn implementation(&self, of: Cap, on: Cap) -> LevelAnswer
         ensures { result ≡ impl_of self.now of on }
     {
@@ -99,6 +102,7 @@ impl Types {
     }
 
     // A type goes, where it has no object.
+    #[inline(never)]
     fn drop_type(&mut self, uid: u64) -> LevelAnswer
         ensures state { self.new ≡ (type_gone self.old uid).0 }
         ensures answer { result ≡ (type_gone self.old uid).1 }
