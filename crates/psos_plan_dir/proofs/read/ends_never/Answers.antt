@@ -1,0 +1,15 @@
+use Rattle.std.proofs.Common.{[], sym, ap, ◌∙◌}
+use Rattle.psos_words.specs.Directory.{has_never}
+use Rattle.psos_plan_dir.specs.Pages.{page_in}
+use Rattle.psos_plan_dir.proofs.Walk.{last-is, no-page}
+use Rattle.psos_plan_dir.proofs.read.ends_never.Goals as goal
+
+pub returns-in-Whole : goal.returns-in-Whole
+returns-in-Whole c =
+    let last = last-is [] c.args.pages.now c.in-Some.last.now (sym c.in-Some.ensures.value) in
+    c.has_never.ensures ∙ sym (ap has_never (last ∙ ap page_in c.in-Whole.is))
+
+pub returns-in_default : goal.returns-in_default
+returns-in_default c =
+    let last = last-is [] c.args.pages.now c.in-Some.last.now (sym c.in-Some.ensures.value) in
+    sym (ap has_never (last ∙ no-page c.in-Some.last.now.answer c.in_default.not-Whole))

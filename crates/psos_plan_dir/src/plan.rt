@@ -1,0 +1,38 @@
+// What a plan does next.
+ghost use Rattle.std.specs.Prelude.{◌≡◌, IfOk, OnErr};
+ghost use Rattle.psos_calls.specs.Request.{InRange};
+ghost use Rattle.psos_calls.specs.Levels.{Levels};
+ghost use Rattle.psos_calls.specs.Lists.{HasLists};
+ghost use Rattle.psos_calls.specs.PlanOf.{plan_of};
+ghost use Rattle.psos_calls.specs.Trace.{followed, next_of, IsTraceOf};
+ghost use Rattle.psos_plan_dir.specs.Kinds.{IsOfDirectories};
+ghost use Rattle.psos_plan_dir.specs.Listing.{IsListing};
+
+use crate::directories::{next_bind, next_lookup, next_unbind};
+use crate::listing::next_list;
+use crate::spaces::{next_find, next_path};
+use psos_calls::{Next, Private, Request, Trace};
+use std::alloc::{AllocError, Global};
+
+/// What the plan of a request does after its calls so far (docs/requests.md, "Plans"): the next call, or the close.
+/// The request is one of directories and name spaces, and the trace is a front of a run of its plan from levels in
+/// which each live directory has an entry list. A refusal is for memory, and comes only where `list` closes with its
+/// names.
+pub fn next(alloc: Global, req: &Request, me: &Private, trace: &Trace) -> Result<Next, AllocError>
+    requires kind { IsOfDirectories req.now }
+    requires in_range { InRange 64 req.now }
+    requires trace { (l : Levels) × IsTraceOf (plan_of me.now req.now) l trace.now × HasLists l }
+    ensures answer { IfOk result (λ n. n ≡ next_of (followed (plan_of me.now req.now) trace.now)) }
+    ensures memory { OnErr result (IsListing req.now (followed (plan_of me.now req.now) trace.now)) }
+{
+    let trace = trace.as_slice();
+    match *req {
+        Request::Lookup { rd, rs, name } => Ok(next_lookup(me, rd, rs, &name, trace)),
+        Request::Bind { rs, name, rv } => Ok(next_bind(me, rs, &name, rv, trace)),
+        Request::Unbind { rs, name } => Ok(next_unbind(me, rs, &name, trace)),
+        Request::List { rs } => next_list(alloc, me, rs, trace),
+        Request::Path { rs } => Ok(next_path(me, rs, trace)),
+        Request::Find { rd, name } => Ok(next_find(me, rd, &name, trace)),
+        _ => unreachable!(),
+    }
+}

@@ -1,0 +1,5 @@
+use Rattle.psos_plan_life.proofs.Fronts.{leads}
+use Rattle.psos_plan_life.proofs.parts.done.Goals as goal
+
+pub returns-in_default-answer-clause-front : goal.returns-in_default-answer-clause-front
+returns-in_default-answer-clause-front c = leads c.args.call c.in-Some.step.now c.args.trace.now c.in-Some.rest.now c.in-Some.ensures.cases.0 c.in_default-answer.not-No

@@ -1,0 +1,81 @@
+-- Where the entry of a new user object goes: the part of a plan that finds its slot and takes its identifier. States docs/requests.md, "Plans".
+use Rattle.std.specs.Prelude.{ℕ, List, Option, Some, None, IsSome}
+use Rattle.std.specs.Option.{unwrap_or}
+use Rattle.psos_caps.specs.Capability.{Capability}
+use Rattle.psos_words.specs.Directory.{slot_for}
+use Rattle.psos_text.specs.declared.name.Name.{Name}
+use Rattle.psos_calls.specs.declared.right.Right.TheVariants.{Create}
+use Rattle.psos_calls.specs.declared.level_call.LevelCall.TheVariants.{DirAt, RepOf, TypeAt}
+use Rattle.psos_calls.specs.declared.step.Step.{Step}
+use Rattle.psos_calls.specs.Levels.{Levels}
+use Rattle.psos_calls.specs.Lists.{HasLists}
+use Rattle.psos_calls.specs.Plan.{Plan, Ask, uid, if_done, if_guard, if_rep}
+use Rattle.psos_calls.specs.PlanParts.{Opened, read_rep, if_room, if_object_room, with_fresh}
+use Rattle.psos_calls.specs.Trace.{IsTraceOf}
+use Rattle.psos_plan_dir.specs.Reads.{Reader, open_with, IsNoPage}
+use Rattle.psos_plan_life.specs.Parts.{Gives}
+
+-- the directory of the new entry, the slot of that in it, and the new identifier
+pub record Placed : Type 0 where
+  pub dir : Opened
+  pub slot : ℕ
+  pub new : Capability
+
+-- the least slot that is not used
+abbrev pub free_place : Opened → ℕ
+free_place d = unwrap_or (slot_for d.slots) 0
+
+-- the place in a directory with a free slot
+abbrev pub placed_in : Opened → Capability → Placed
+placed_in d new = record { dir = d; slot = free_place d; new = new }
+
+-- in this directory
+abbrev pub placing : Opened → Name → (Placed → Plan) → Plan
+placing d name go = if_room d name (λ k. with_fresh (λ new. go (record { dir = d; slot = k; new = new })))
+
+-- the directory is opened, and between its representation and the slot of that a type is looked at
+abbrev pub typed_dir : Capability → Capability → Reader
+typed_dir dir of go =
+    Ask (DirAt dir Create) (λ a. if_guard a (λ guard.
+    Ask (RepOf (uid dir.uid)) (λ b. if_rep b (λ rep.
+    Ask (TypeAt of) (λ c. if_done c (
+    read_rep rep go))))))
+
+-- the directory is opened, for an object of this type or for what has none
+abbrev pub opening : Capability → Option Capability → Reader
+opening dir None go = open_with dir Create go
+opening dir (Some of) go = typed_dir dir of go
+
+-- where there is room for one more object, in the directory of a capability
+abbrev pub making : Capability → Option Capability → Name → (Placed → Plan) → Plan
+making dir of name go = if_object_room (opening dir of (λ d. placing d name go))
+
+-- ---- where a plan is in this part
+
+-- behind the opened directory
+pub record IsPlacing (d : Opened) (name : Name) (trace : List Step) : Type 0 where
+  pub levels : Levels
+  pub go : Placed → Plan
+  pub front : IsTraceOf (placing d name go) levels trace
+
+-- behind the room for one more object
+pub record IsOpening (dir : Capability) (of : Option Capability) (trace : List Step) : Type 0 where
+  pub levels : Levels
+  pub lists : HasLists levels
+  pub go : Opened → Plan
+  pub apart : (d : Opened) → IsNoPage (go d)
+  pub front : IsTraceOf (opening dir of go) levels trace
+
+-- at its start
+pub record IsMaking (dir : Capability) (of : Option Capability) (name : Name) (trace : List Step) : Type 0 where
+  pub levels : Levels
+  pub lists : HasLists levels
+  pub go : Placed → Plan
+  pub front : IsTraceOf (making dir of name go) levels trace
+
+-- ---- the part is past
+
+-- a slot is free in the directory, the identifier was taken, and the plan goes on with them
+pub record IsPlaced (part : (Placed → Plan) → Plan) (trace : List Step) (d : Opened) (new : Capability) (rest : List Step) : Type 0 where
+  pub room : IsSome (slot_for d.slots)
+  pub gives : Gives part trace (placed_in d new) rest

@@ -1,0 +1,30 @@
+// The plan of `impl`.
+ghost use Rattle.std.specs.Prelude.{◌≡◌, ◌<◌};
+ghost use Rattle.psos_calls.specs.User.{here};
+ghost use Rattle.psos_calls.specs.Trace.{followed, next_of};
+ghost use Rattle.psos_calls.specs.PlanLife.{plan_impl};
+
+use crate::close::{give, refuse};
+use psos_calls::{Level, LevelAnswer, LevelCall, Next, Private, Refusal, Step};
+use psos_words::Word;
+
+pub(crate) fn next_impl(me: &Private, rd: u8, rt: u8, ro: u8, trace: &[Step]) -> Next
+    requires of { rt < 16 }
+    requires on { ro < 16 }
+    ensures { result ≡ next_of (followed (plan_impl (here me.now) rd rt ro) trace.now) }
+{
+    let Word::Cap(of) = me.here(rt) else {
+        return refuse(Refusal::NotCap);
+    };
+    let Word::Cap(on) = me.here(ro) else {
+        return refuse(Refusal::NotCap);
+    };
+    let Some((step, _)) = trace.split_first() else {
+        return Next::Call(Level::L9, LevelCall::Impl { of, on });
+    };
+    match step.answer {
+        LevelAnswer::Got(word) => give(rd, word),
+        LevelAnswer::No(refusal) => refuse(refusal),
+        _ => refuse(Refusal::Range),
+    }
+}

@@ -1,0 +1,19 @@
+//! The plans of user objects: what each does next, after the answers so far.
+//!
+//! A plan knows no level's state. It reads its user's own part and the answers of the calls that it made
+//! (docs/requests.md, "Plans"). What plans share are parts: each gives the steps behind it, or stops with what comes next.
+#![tactic(auto)]
+
+mod close;
+mod delete;
+mod enrol;
+mod gone;
+mod impls;
+mod makes;
+mod parts;
+mod place;
+mod plan;
+mod shape;
+mod store;
+
+pub use plan::next;

@@ -1,0 +1,153 @@
+// Plans that make a user object: what a request asks is looked at, then a place is found, the thing is made, and it is
+// enrolled.
+ghost use Rattle.std.specs.Prelude.{◌≡◌, ◌<◌};
+ghost use Rattle.psos_text.specs.Name.{IsName};
+ghost use Rattle.psos_calls.specs.User.{here};
+ghost use Rattle.psos_calls.specs.Trace.{followed, next_of};
+ghost use Rattle.psos_calls.specs.PlanLife.{plan_mkseg, plan_mkdir, plan_mktype, plan_mkobj, plan_mkcode};
+ghost use Rattle.psos_plan_dir.specs.Reads.{IsRun};
+
+use crate::close::refuse;
+use crate::enrol::enrol;
+use crate::parts::done;
+use crate::place::make_in;
+use crate::shape::{guard_of, segment_len};
+use crate::store::{directory, representation, segment};
+use psos_calls::{Kind, Level, LevelCall, Next, Private, Refusal, Step};
+use psos_caps::Rights;
+use psos_text::Name;
+use psos_words::Word;
+
+pub(crate) fn next_mkseg(
+    me: &Private,
+    rd: u8,
+    rs: u8,
+    name: &Name,
+    len: u64,
+    guard: u8,
+    trace: &[Step],
+) -> Next
+    requires source { rs < 16 }
+    requires named { IsName name.now }
+    requires run { IsRun (plan_mkseg (here me.now) rd rs name.now len guard) trace.now }
+    ensures { result ≡ next_of (followed (plan_mkseg (here me.now) rd rs name.now len guard) trace.now) }
+{
+    let Word::Cap(dir) = me.here(rs) else {
+        return refuse(Refusal::NotCap);
+    };
+    let Some(len) = segment_len(len) else {
+        return refuse(Refusal::Range);
+    };
+    let (place, trace) = match make_in(dir, None, name, trace) {
+        Ok(found) => found,
+        Err(next) => return next,
+    };
+    let made = segment(place.new.uid(), len, guard_of(guard), trace);
+    enrol(&place, name, Kind::Segment, rd, made)
+}
+
+pub(crate) fn next_mkdir(
+    me: &Private,
+    rd: u8,
+    rs: u8,
+    name: &Name,
+    guard: u8,
+    trace: &[Step],
+) -> Next
+    requires source { rs < 16 }
+    requires named { IsName name.now }
+    requires run { IsRun (plan_mkdir (here me.now) rd rs name.now guard) trace.now }
+    ensures { result ≡ next_of (followed (plan_mkdir (here me.now) rd rs name.now guard) trace.now) }
+{
+    let Word::Cap(dir) = me.here(rs) else {
+        return refuse(Refusal::NotCap);
+    };
+    let (place, trace) = match make_in(dir, None, name, trace) {
+        Ok(found) => found,
+        Err(next) => return next,
+    };
+    let made = directory(place.new.uid(), guard_of(guard), trace);
+    enrol(&place, name, Kind::Directory, rd, made)
+}
+
+pub(crate) fn next_mktype(me: &Private, rd: u8, rs: u8, name: &Name, trace: &[Step]) -> Next
+    requires source { rs < 16 }
+    requires named { IsName name.now }
+    requires run { IsRun (plan_mktype (here me.now) rd rs name.now) trace.now }
+    ensures { result ≡ next_of (followed (plan_mktype (here me.now) rd rs name.now) trace.now) }
+{
+    let Word::Cap(dir) = me.here(rs) else {
+        return refuse(Refusal::NotCap);
+    };
+    let (place, trace) = match make_in(dir, None, name, trace) {
+        Ok(found) => found,
+        Err(next) => return next,
+    };
+    let uid = place.new.uid();
+    let made = done(Level::L9, LevelCall::TypeMake { uid }, trace);
+    enrol(&place, name, Kind::Typ, rd, made)
+}
+
+pub(crate) fn next_mkobj(
+    me: &Private,
+    rd: u8,
+    rt: u8,
+    rs: u8,
+    name: &Name,
+    len: u64,
+    trace: &[Step],
+) -> Next
+    requires of { rt < 16 }
+    requires source { rs < 16 }
+    requires named { IsName name.now }
+    requires run { IsRun (plan_mkobj (here me.now) rd rt rs name.now len) trace.now }
+    ensures { result ≡ next_of (followed (plan_mkobj (here me.now) rd rt rs name.now len) trace.now) }
+{
+    let Word::Cap(of) = me.here(rt) else {
+        return refuse(Refusal::NotCap);
+    };
+    let Word::Cap(dir) = me.here(rs) else {
+        return refuse(Refusal::NotCap);
+    };
+    let Some(len) = segment_len(len) else {
+        return refuse(Refusal::Range);
+    };
+    let (place, trace) = match make_in(dir, Some(of), name, trace) {
+        Ok(found) => found,
+        Err(next) => return next,
+    };
+    let made = representation(place.new.uid(), len, Rights::of(1), Some(of.uid()), trace);
+    enrol(&place, name, Kind::Object, rd, made)
+}
+
+pub(crate) fn next_mkcode(
+    me: &Private,
+    rd: u8,
+    rs: u8,
+    name: &Name,
+    label: u8,
+    rl: u8,
+    trace: &[Step],
+) -> Next
+    requires source { rs < 16 }
+    requires linkage { rl < 16 }
+    requires named { IsName name.now }
+    requires run { IsRun (plan_mkcode (here me.now) rd rs name.now label rl) trace.now }
+    ensures { result ≡ next_of (followed (plan_mkcode (here me.now) rd rs name.now label rl) trace.now) }
+{
+    let Word::Cap(dir) = me.here(rs) else {
+        return refuse(Refusal::NotCap);
+    };
+    let link = me.here(rl);
+    let trace = match done(Level::L13, LevelCall::Admit { word: link }, trace) {
+        Ok(trace) => trace,
+        Err(next) => return next,
+    };
+    let (place, trace) = match make_in(dir, None, name, trace) {
+        Ok(found) => found,
+        Err(next) => return next,
+    };
+    let uid = place.new.uid();
+    let made = done(Level::L13, LevelCall::CodeMake { uid, label, link }, trace);
+    enrol(&place, name, Kind::Code, rd, made)
+}

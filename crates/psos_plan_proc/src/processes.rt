@@ -1,0 +1,64 @@
+// Plans that ask levels 12 and 13.
+ghost use Rattle.std.specs.Prelude.{◌≡◌, ◌<◌};
+ghost use Rattle.psos_calls.specs.User.{here};
+ghost use Rattle.psos_calls.specs.Trace.{followed, next_of};
+ghost use Rattle.psos_calls.specs.PlanProc.{plan_send, plan_recv, plan_call};
+
+use crate::close::{enter, fine, give, refuse};
+use psos_calls::{Level, LevelAnswer, LevelCall, Next, Private, Refusal, Step, Tab, limits};
+use psos_words::Word;
+
+pub(crate) fn next_send(me: &Private, rp: u8, rv: u8, trace: &[Step]) -> Next
+    requires target { rp < 16 }
+    requires value { rv < 16 }
+    ensures { result ≡ next_of (followed (plan_send (here me.now) rp rv) trace.now) }
+{
+    let Word::Cap(to) = me.here(rp) else {
+        return refuse(Refusal::NotCap);
+    };
+    let Some((a, _)) = trace.split_first() else {
+        let word = me.here(rv);
+        return Next::Call(Level::L12, LevelCall::Post { to, word });
+    };
+    match a.answer {
+        LevelAnswer::No(refusal) => refuse(refusal),
+        _ => fine(),
+    }
+}
+
+pub(crate) fn next_recv(me: &Private, rd: u8, trace: &[Step]) -> Next
+    ensures { result ≡ next_of (followed (plan_recv me.now.process rd) trace.now) }
+{
+    let Some((a, _)) = trace.split_first() else {
+        let uid = me.process();
+        return Next::Call(Level::L12, LevelCall::Draw { uid });
+    };
+    match a.answer {
+        LevelAnswer::Got(word) => give(rd, word),
+        LevelAnswer::No(refusal) => refuse(refusal),
+        _ => refuse(Refusal::Range),
+    }
+}
+
+pub(crate) fn next_call(me: &Private, rp: u8, trace: &[Step]) -> Next
+    requires { rp < 16 }
+    ensures { result ≡ next_of (followed (plan_call me.now (here me.now) rp) trace.now) }
+{
+    let Word::Cap(cap) = me.here(rp) else {
+        return refuse(Refusal::NotCap);
+    };
+    if me.open_bodies() >= limits::MOST_FRAMES {
+        return refuse(Refusal::Exhausted(Tab::Frames));
+    }
+    if usize::from(me.charge()) + limits::CALL_CHARGE > limits::MOST_CHARGE {
+        return refuse(Refusal::Exhausted(Tab::Requests));
+    }
+    let Some((a, _)) = trace.split_first() else {
+        return Next::Call(Level::L13, LevelCall::Enter { cap });
+    };
+    match a.answer {
+        LevelAnswer::Entered { label, link } => enter(label, link),
+        LevelAnswer::No(refusal) => refuse(refusal),
+        _ => refuse(Refusal::Range),
+    }
+}
