@@ -1,5 +1,5 @@
 -- Plans and answers, where the levels stand for a flat state. States docs/promises.md, "Stands for".
-use Rattle.std.specs.Prelude.{◌≡◌, ◌+◌, ◌≤◌, ◌^◌, ℕ, slice_get, Some}
+use Rattle.std.specs.Prelude.{◌≡◌, ◌+◌, ◌≤◌, ◌^◌, ℕ, length, slice_get, Some}
 use Rattle.psos_calls.specs.declared.request.Request.{Request}
 use Rattle.psos_calls.specs.declared.reply.Reply.{Reply}
 use Rattle.psos_calls.specs.declared.reply.Reply.TheVariants.{No}
@@ -8,7 +8,8 @@ use Rattle.psos_calls.specs.Script.{Script, IsWellFormed}
 use Rattle.psos_calls.specs.Request.{InRange}
 use Rattle.psos_calls.specs.User.{User, next_request, CanMake}
 use Rattle.psos_calls.specs.Levels.{Levels}
-use Rattle.psos_calls.specs.Plan.{Runs}
+use Rattle.psos_calls.specs.Lists.{HasLists}
+use Rattle.psos_calls.specs.Plan.{Runs, run_plan}
 use Rattle.psos_calls.specs.PlanOf.{plan_of}
 use Rattle.psos_model.specs.Flat.{Flat}
 use Rattle.psos_model.specs.Changes.{changed_all}
@@ -17,11 +18,11 @@ use Rattle.psos_model.specs.Answer.{outcome, answer}
 use Rattle.psos_model.specs.Boot.{boot}
 use Rattle.psos_model.specs.Replay.{System, boot_system, replay_step, answered_of}
 use Rattle.psos_model.specs.Sound.{IsSound}
-use Rattle.psos_model.specs.Spelling.{IsBuiltRequest}
 use Rattle.psos_model.specs.StandsFor.{StandsFor}
 
--- user u, whose own part is x, asks this request next; the levels stand for a sound flat state, and two identifiers are left
+-- user u of a well-formed script, whose own part is x, asks this request next; the levels stand for a sound flat state, and two identifiers are left
 pub record Ready (s : Script) (y : System) (f : Flat) (u : ℕ) (x : User) (request : Request) : Type 0 where
+  pub well : IsWellFormed s
   pub stands : StandsFor y f
   pub sound : IsSound s f
   pub room : f.next + 3 ≤ 2 ^ 64
@@ -49,21 +50,29 @@ Agrees request = (s : Script) (y : System) (f : Flat) (u : ℕ) (x : User) → R
 
 -- ---- one request, and boot
 
--- what user u asks next is built
-abbrev pub AsksBuilt : Script → Flat → ℕ → Type 0
-AsksBuilt s f u = (x : User) (request : Request) → slice_get f.users u ≡ Some x → next_request s x ≡ Some request → IsBuiltRequest request
-
 -- user u's next request, by its plan and by its answer. A refusal leaves all levels as they were
 pub record StepAgrees (s : Script) (y : System) (f : Flat) (u : ℕ) : Type 0 where
   pub stands : StandsFor (replay_step s y u).0 (answer s f u).0
   pub answered : answered_of (replay_step s y u).1 ≡ (answer s f u).1
   pub kept : KeepsIfNo (replay_step s y u).1.reply y.levels (replay_step s y u).0.levels
 
--- the plan of each request that is built agrees with its answer, from levels that stand for a sound flat state in which two identifiers are left
+-- the plan of each request agrees with its answer, from levels that stand for a sound flat state in which two identifiers are left
 abbrev pub RequestsAgree : Type 0
-RequestsAgree = (s : Script) (y : System) (f : Flat) (u : ℕ) → IsWellFormed s → AsksBuilt s f u
+RequestsAgree = (s : Script) (y : System) (f : Flat) (u : ℕ) → IsWellFormed s
     → StandsFor y f → IsSound s f → f.next + 3 ≤ 2 ^ 64 → StepAgrees s y f u
 
 -- the levels at boot stand for the flat state of boot
 abbrev pub BootStands : Type 0
 BootStands = (s : Script) → IsWellFormed s → StandsFor (boot_system s) (boot s)
+
+-- ---- how many calls
+
+-- the plan of each request makes at most 44 calls, from any levels, where the name space has at most 4 directories
+abbrev pub PlansAreShort : Type 0
+PlansAreShort = (x : User) (l : Levels) (request : Request) → length x.path ≤ 4 → length (run_plan (plan_of x request) l).calls ≤ 44
+
+-- ---- directories in words
+
+-- levels that stand for a sound flat state have an entry list in the words of each live directory
+abbrev pub DirectoriesAreLists : Type 0
+DirectoriesAreLists = (s : Script) (y : System) (f : Flat) → StandsFor y f → IsSound s f → HasLists y.levels

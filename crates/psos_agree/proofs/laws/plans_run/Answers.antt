@@ -2,4 +2,4 @@ use Rattle.psos_agree.proofs.Stepping.{all_agree}
 use Rattle.psos_agree.proofs.laws.plans_run.Goals as goal
 
 pub returns : goal.returns
-returns c = λ request built. all_agree request built
+returns c = λ request. all_agree request

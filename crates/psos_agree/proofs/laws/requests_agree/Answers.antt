@@ -2,4 +2,4 @@ use Rattle.psos_agree.proofs.Stepping.{step_agrees}
 use Rattle.psos_agree.proofs.laws.requests_agree.Goals as goal
 
 pub returns : goal.returns
-returns c = λ s y f u well built h sound room. step_agrees s y f u well built h sound room
+returns c = λ s y f u well h sound room. step_agrees s y f u well h sound room

@@ -1,5 +1,0 @@
-use Rattle.psos_frames.proofs.SegmentsRoom.{slot_is_free}
-use Rattle.psos_frames.proofs.segments.slots_are_left.Goals as goal
-
-pub returns : goal.returns
-returns c = λ s y f h sound room few. slot_is_free h sound room few
