@@ -31,6 +31,7 @@ pub mod SoundUser
 pub mod Sound
 pub mod Core
 pub mod Serial
+pub mod SerialOrder
 pub mod Turns
 pub mod Load
 pub mod Laws

@@ -3,7 +3,6 @@ use Rattle.std.specs.Prelude.{◌≡◌, ℕ, ◌+◌, ◌≤◌, Bool, true, �
 use Rattle.std.specs.List.{flat_map, list_all, AllByRecursion}
 use Rattle.psos_text.specs.Lines.{lines_of, words_of}
 use Rattle.psos_calls.specs.declared.request.Request.{Request}
-use Rattle.psos_calls.specs.declared.request.Request.TheVariants.{Mint, Restrict, Set, Move, Add, Read, Write, Window, Length}
 use Rattle.psos_calls.specs.Request.{InRange}
 use Rattle.psos_calls.specs.Script.{UserScript, CodeBlock, Script, IsWellFormed}
 use Rattle.psos_model.specs.Operands.{Text}
@@ -57,33 +56,6 @@ is_printable b = nat_le 32 b && nat_le b 126
 abbrev pub is_line : List ℕ → Bool
 is_line line = nat_le (length line) 200 && list_all is_printable line
 
--- ---- the scripts that are built
-
--- one row for each request that is built today
-abbrev pub IsBuiltRequest : Request → Type 0
-IsBuiltRequest (Mint rd) = Unit {0}
-IsBuiltRequest (Restrict rd rs keep) = Unit {0}
-IsBuiltRequest (Set rd n) = Unit {0}
-IsBuiltRequest (Move rd rs) = Unit {0}
-IsBuiltRequest (Add rd ra rb) = Unit {0}
-IsBuiltRequest (Read rd rs n) = Unit {0}
-IsBuiltRequest (Write rs n rv) = Unit {0}
-IsBuiltRequest (Window rd rs base len) = Unit {0}
-IsBuiltRequest (Length rd rs) = Unit {0}
-IsBuiltRequest _ = ⊥
-
-abbrev pub IsBuiltUser : UserScript → Type 0
-IsBuiltUser u = AllByRecursion (AllByRecursion IsBuiltRequest) u.phases
-
-abbrev pub IsBuiltCode : CodeBlock → Type 0
-IsBuiltCode c = AllByRecursion IsBuiltRequest c.body
-
--- well formed, and every request is built
-pub record IsBuilt (s : Script) : Type 0 where
-  pub well_formed : IsWellFormed s
-  pub users : AllByRecursion IsBuiltUser s.users
-  pub codes : AllByRecursion IsBuiltCode s.codes
-
 -- a body names the labels of blocks before it and its own alone; so many blocks stand before these
 abbrev pub AreInOrder : ℕ → List CodeBlock → Type 0
 AreInOrder before [] = Unit {0}
@@ -95,4 +67,4 @@ pub record IsScript (bytes : List ℕ) (s : Script) : Type 0 where
   pub lines : AllByRecursion (λ line. IsTrue (is_line line)) (lines_of bytes)
   pub spelled : kept (lines_of bytes) ≡ script_lines s
   pub order : AreInOrder 0 s.codes
-  pub built : IsBuilt s
+  pub well_formed : IsWellFormed s

@@ -10,9 +10,9 @@ use Rattle.psos_text.specs.Name.{is_name}
 use Rattle.psos_text.specs.Lines.{lines_of, words_of}
 use Rattle.psos_calls.specs.declared.request.Request.{Request}
 use Rattle.psos_calls.specs.Request.{InRange}
-use Rattle.psos_calls.specs.Script.{CodeBlock, UserScript, Script, IsCodeBlock, IsUserScript, AreDistinct}
+use Rattle.psos_calls.specs.Script.{CodeBlock, UserScript, Script, IsCodeBlock, IsUserScript, AreDistinct, IsWellFormed}
 use Rattle.psos_model.specs.Operands.{Text}
-use Rattle.psos_model.specs.Spelling.{labels_of, requests_lines, code_lines, phases_lines, user_lines, script_lines, is_skipped, kept, is_printable, is_line, IsBuiltRequest, IsBuiltUser, IsBuiltCode, IsBuilt, AreInOrder, IsScript}
+use Rattle.psos_model.specs.Spelling.{labels_of, requests_lines, code_lines, phases_lines, user_lines, script_lines, is_skipped, kept, is_printable, is_line, AreInOrder, IsScript}
 use Rattle.psos_script.specs.Fault.{Seen, is_among, at_line, line_cause, words_cause, end_cause, in_body, fault_of}
 use Rattle.psos_script.specs.Draft.{Read, NoneOpen, BodyOpen, UserOpen, place_in, seen_in, closed, with_now, with_code, after_line, nothing_read, fault_after, read_after, script_of, script_in}
 use Rattle.psos_script.proofs.RowAgain.{AreNumbered}
@@ -72,15 +72,15 @@ block_ends : (cs : List CodeBlock) (c : CodeBlock)
 block_ends cs c = ap (λ (ls : List Text). let d : Read = record { labels = ls; codes = cs ++ c ∷ []; names = []; users = []; now = NoneOpen } in d) (sym (map-append label_of cs (c ∷ [])))
 
 code_walk : (cs : List CodeBlock) (c : CodeBlock) (rest : List Text) → is_among c.label (map label_of cs) ≡ false → length cs < 64 → IsTrue (is_name c.label) → 1 ≤ length c.body → length c.body ≤ 16
-    → IsReady (map label_of cs ++ c.label ∷ []) rest → AllByRecursion (InRange (length (map label_of cs ++ c.label ∷ []))) c.body → AllByRecursion IsBuiltRequest c.body
+    → IsReady (map label_of cs ++ c.label ∷ []) rest → AllByRecursion (InRange (length (map label_of cs ++ c.label ∷ []))) c.body
     → Walk (at cs []) (code_lines ((map label_of cs ++ c.label ∷ []) ++ rest) c) (at (cs ++ c ∷ []) [])
-code_walk cs c rest new few name some short ready range built =
+code_walk cs c rest new few name some short ready range =
     let d = at cs [] in
     let m = with_code d c.label in
     let all = (map label_of cs ++ c.label ∷ []) ++ rest in
     let e = with_now m (BodyOpen c.label c.body) in
     let z = at (cs ++ c ∷ []) [] in
-    let body : Walk m (requests_lines all c.body) e = body_walk m rest c.label [] c.body ready (omega (arith, short)) range built in
+    let body : Walk m (requests_lines all c.body) e = body_walk m rest c.label [] c.body ready (omega (arith, short)) range in
     let last : Walk e ((codes "end" ∷ []) ∷ []) z = Walk-cons e z z (codes "end" ∷ []) [] (head_words (seen_in e) End [] ∙ end_fine m.labels m.names (length c.body) some) (head_after e End [] ∙ block_ends cs c) refl in
     Walk-cons d m z (codes "code" ∷ c.label ∷ []) (requests_lines all c.body ++ (codes "end" ∷ []) ∷ [])
     (head_words (seen_in d) Code (c.label ∷ []) ∙ code_fine d c.label refl refl name new (omega (arith, few, (let e : length (map label_of cs) ≡ length cs = length-map cs label_of in e)))) (head_after d Code (c.label ∷ []))
@@ -90,10 +90,10 @@ split_labels : (cs : List CodeBlock) (c : CodeBlock) (later : List CodeBlock) �
 split_labels cs c later = map-append label_of cs (c ∷ later) ∙ sym (append_assoc (map label_of cs) (c.label ∷ []) (map label_of later))
 
 codes_walk : (cs later : List CodeBlock) (blocks : ℕ) → AreDistinct (map label_of (cs ++ later)) → AllByRecursion (λ l. IsTrue (is_name l)) (map label_of (cs ++ later)) → length (cs ++ later) ≤ 64
-    → AllByRecursion (IsCodeBlock blocks) later → AreInOrder (length cs) later → AllByRecursion IsBuiltCode later
+    → AllByRecursion (IsCodeBlock blocks) later → AreInOrder (length cs) later
     → Walk (at cs []) (flat_map (code_lines (map label_of (cs ++ later))) later) (at (cs ++ later) [])
-codes_walk cs [] blocks new names few fit order built = ap (λ (x : List CodeBlock). at x []) (sym (append-nil cs))
-codes_walk cs (c ∷ later) blocks new names few fit order built =
+codes_walk cs [] blocks new names few fit order = ap (λ (x : List CodeBlock). at x []) (sym (append-nil cs))
+codes_walk cs (c ∷ later) blocks new names few fit order =
     let rest = map label_of later in
     let labels = map label_of cs ++ c.label ∷ [] in
     let split = split_labels cs c later in
@@ -104,14 +104,14 @@ codes_walk cs (c ∷ later) blocks new names few fit order built =
     let ready : IsReady labels rest = record { numbered = distinct_numbered labels (distinct_front labels rest apart); named = subst N split names } in
     let own = distinct_new (map label_of cs) c.label rest (subst D (map-append label_of cs (c ∷ later)) new) in
     let count : length cs + 1 ≡ length labels = omega (arith, length-append (map label_of cs) (c.label ∷ []), (let e : length (map label_of cs) ≡ length cs = length-map cs label_of in e)) in
-    let one = code_walk cs c rest own (omega (arith, few, length-append cs (c ∷ later))) fit.0.labelled fit.0.some fit.0.few ready (subst R count order.0) built.0 in
+    let one = code_walk cs c rest own (omega (arith, few, length-append cs (c ∷ later))) fit.0.labelled fit.0.some fit.0.few ready (subst R count order.0) in
     let L : List Text → Type 0 = λ ls. Walk (at cs []) (code_lines ls c) (at (cs ++ c ∷ []) []) in
     let moved : (cs ++ c ∷ []) ++ later ≡ cs ++ c ∷ later = append_assoc cs (c ∷ []) later in
     let S : List CodeBlock → Type 0 = λ x. AreDistinct (map label_of x) in
     let T : List CodeBlock → Type 0 = λ x. AllByRecursion (λ l. IsTrue (is_name l)) (map label_of x) in
     let O : ℕ → Type 0 = λ n. AreInOrder n later in
     let others = codes_walk (cs ++ c ∷ []) later blocks (subst S (sym moved) new) (subst T (sym moved) names) (omega (arith, few, ap length moved)) fit.1
-    (subst O (let e : length cs + 1 ≡ length (cs ++ c ∷ []) = omega (arith, length-append cs (c ∷ [])) in e) order.1) built.1 in
+    (subst O (let e : length cs + 1 ≡ length (cs ++ c ∷ []) = omega (arith, length-append cs (c ∷ [])) in e) order.1) in
     let W : List CodeBlock → Type 0 = λ x. Walk (at (cs ++ c ∷ []) []) (flat_map (code_lines (map label_of x)) later) (at x []) in
     Walk-append (at cs []) (at (cs ++ c ∷ []) []) (at (cs ++ c ∷ later) []) (code_lines (map label_of (cs ++ c ∷ later)) c) (flat_map (code_lines (map label_of (cs ++ c ∷ later))) later)
     (subst L (sym split) one) (subst W moved others)
@@ -146,15 +146,15 @@ ends_at d cs us u v is e =
     ∙ rw (e, append-nil cs) (ap (λ (ls : List Text). let r : Read = record { labels = map label_of cs; codes = cs; names = ls; users = us ++ u ∷ []; now = NoneOpen } in r) (sym (map-append named us (u ∷ []))))
 
 user_walk : (d : Read) (cs : List CodeBlock) (us : List UserScript) (u : UserScript) (blocks : ℕ) → closed d ≡ at cs us → place_in d.now ≢ InBody → is_among u.name (map named us) ≡ false → length us < 8
-    → IsReady (map label_of cs) [] → length cs ≡ blocks → IsUserScript blocks u → IsBuiltUser u → Goes d (user_lines (map label_of cs ++ []) u) cs (us ++ u ∷ [])
-user_walk d cs us u blocks is place new few ready count fit built =
+    → IsReady (map label_of cs) [] → length cs ≡ blocks → IsUserScript blocks u → Goes d (user_lines (map label_of cs ++ []) u) cs (us ++ u ∷ [])
+user_walk d cs us u blocks is place new few ready count fit =
     let labels : d.labels ≡ map label_of cs = ap (λ (x : Read). x.labels) is in
     let names : d.names ≡ map named us = ap (λ (x : Read). x.names) is in
     let b = begun d u.name in
     let RD : List Text → Type 0 = λ ls. IsReady ls [] in
     let RN : ℕ → Type 0 = λ n. AllByRecursion (AllByRecursion (InRange n)) u.phases in
     let many : blocks ≡ length d.labels = sym count ∙ sym (length-map cs label_of) ∙ ap length (sym labels) in
-    let ends = phases_walk b [] u.name u.phases (subst RD (sym labels) ready) fit.some fit.few (subst RN many fit.in_range) built in
+    let ends = phases_walk b [] u.name u.phases (subst RD (sym labels) ready) fit.some fit.few (subst RN many fit.in_range) in
     let e = with_now b (UserOpen u.name ends.done ends.last ends.count) in
     let own : is_among u.name d.names ≡ false = ap (λ (ns : List Text). is_among u.name ns) names ∙ new in
     let fewer : length d.names < 8 = omega (arith, few, ap length names, (let e : length (map named us) ≡ length us = length-map us named in e)) in
@@ -172,15 +172,15 @@ at_same : (d : Read) (cs : List CodeBlock) (us vs : List UserScript) → d ≡ a
 at_same d cs us vs is e = let P : List UserScript → Type 0 = λ x. d ≡ at cs x in subst P e is
 
 users_walk : (d : Read) (cs : List CodeBlock) (us later : List UserScript) (blocks : ℕ) → closed d ≡ at cs us → place_in d.now ≢ InBody → AreDistinct (map named (us ++ later)) → length (us ++ later) ≤ 8
-    → IsReady (map label_of cs) [] → length cs ≡ blocks → AllByRecursion (IsUserScript blocks) later → AllByRecursion IsBuiltUser later → Goes d (flat_map (user_lines (map label_of cs ++ [])) later) cs (us ++ later)
-users_walk d cs us [] blocks is place new few ready count fit built = record { end = d; walk = refl; finished = at_same (closed d) cs us (us ++ []) is (sym (append-nil us)); place = place }
-users_walk d cs us (u ∷ later) blocks is place new few ready count fit built =
+    → IsReady (map label_of cs) [] → length cs ≡ blocks → AllByRecursion (IsUserScript blocks) later → Goes d (flat_map (user_lines (map label_of cs ++ [])) later) cs (us ++ later)
+users_walk d cs us [] blocks is place new few ready count fit = record { end = d; walk = refl; finished = at_same (closed d) cs us (us ++ []) is (sym (append-nil us)); place = place }
+users_walk d cs us (u ∷ later) blocks is place new few ready count fit =
     let D : List Text → Type 0 = λ ls. AreDistinct ls in
     let own = distinct_new (map named us) u.name (map named later) (subst D (map-append named us (u ∷ later)) new) in
-    let one = user_walk d cs us u blocks is place own (omega (arith, few, length-append us (u ∷ later))) ready count fit.0 built.0 in
+    let one = user_walk d cs us u blocks is place own (omega (arith, few, length-append us (u ∷ later))) ready count fit.0 in
     let moved : (us ++ u ∷ []) ++ later ≡ us ++ u ∷ later = append_assoc us (u ∷ []) later in
     let S : List UserScript → Type 0 = λ x. AreDistinct (map named x) in
-    let others = users_walk one.end cs (us ++ u ∷ []) later blocks one.finished one.place (subst S (sym moved) new) (omega (arith, few, ap length moved)) ready count fit.1 built.1 in
+    let others = users_walk one.end cs (us ++ u ∷ []) later blocks one.finished one.place (subst S (sym moved) new) (omega (arith, few, ap length moved)) ready count fit.1 in
     record {
       end = others.end;
       walk = Walk-append d one.end others.end (user_lines (map label_of cs ++ []) u) (flat_map (user_lines (map label_of cs ++ [])) later) one.walk others.walk;
@@ -234,16 +234,15 @@ record IsWalked (s : Script) : Type 0 where
   finished : closed end ≡ at s.codes s.users
   over : end_cause (seen_in end) ≡ None
 
-script_walk : (s : Script) → IsBuilt s → AreInOrder 0 s.codes → IsWalked s
-script_walk s built order =
-    let f = built.well_formed in
+script_walk : (s : Script) → IsWellFormed s → AreInOrder 0 s.codes → IsWalked s
+script_walk s f order =
     let blocks = length s.codes in
     let names = label_names blocks s.codes f.codes in
-    let first : Walk nothing_read (flat_map (code_lines (labels_of s)) s.codes) (at s.codes []) = codes_walk [] s.codes blocks f.labels names f.few_codes f.codes order built.codes in
+    let first : Walk nothing_read (flat_map (code_lines (labels_of s)) s.codes) (at s.codes []) = codes_walk [] s.codes blocks f.labels names f.few_codes f.codes order in
     let N : List Text → Type 0 = λ ls. AllByRecursion (λ l. IsTrue (is_name l)) ls in
     let ready : IsReady (labels_of s) [] = record { numbered = distinct_numbered (labels_of s) f.labels; named = subst N (sym (append-nil (labels_of s))) names } in
     let same : closed (at s.codes []) ≡ at s.codes [] = ap (λ (cs : List CodeBlock). let d : Read = record { labels = map label_of s.codes; codes = cs; names = []; users = []; now = NoneOpen } in d) (append-nil s.codes) in
-    let later = users_walk (at s.codes []) s.codes [] s.users blocks same (λ q. absurd cc) f.names f.few_users ready refl f.users built.users in
+    let later = users_walk (at s.codes []) s.codes [] s.users blocks same (λ q. absurd cc) f.names f.few_users ready refl f.users in
     let L : List Text → Type 0 = λ ls. Walk (at s.codes []) (flat_map (user_lines ls) s.users) later.end in
     let end_names : later.end.names ≡ map named s.users = ap (λ (x : Read). x.names) later.finished in
     record {
@@ -257,7 +256,7 @@ script_walk s built order =
 pub complete : (bytes : List ℕ) (s : Script) → IsScript bytes s → (fault_of bytes ≡ None) × (script_in (lines_of bytes) ≡ s)
 unfolding script_in
 complete bytes s h =
-    let w = script_walk s h.built h.order in
+    let w = script_walk s h.well_formed h.order in
     let P : List (List Text) → Type 0 = λ ls. Walk nothing_read ls w.end in
     let k = lines_walk 1 nothing_read w.end (lines_of bytes) h.lines (subst P (sym h.spelled) w.walk) w.over in
     (from_start bytes h.short ∙ k.0, ap script_of k.1 ∙ ap (λ (x : Read). let t : Script = record { users = x.users; codes = x.codes } in t) w.finished)

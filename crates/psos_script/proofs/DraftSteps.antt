@@ -9,7 +9,6 @@ use Rattle.psos_calls.specs.declared.request.Request.{Request}
 use Rattle.psos_calls.specs.Request.{InRange}
 use Rattle.psos_calls.specs.Script.{CodeBlock, UserScript}
 use Rattle.psos_model.specs.Operands.{Text}
-use Rattle.psos_model.specs.Spelling.{IsBuiltRequest}
 use Rattle.psos_script.specs.Table.{verb_text, head_text}
 use Rattle.psos_script.specs.Fault.{is_among, line_limit, head_cause}
 use Rattle.psos_script.specs.Draft.{Read, Opened, NoneOpen, BodyOpen, UserOpen, open_codes, open_users, place_in, count_in, seen_in, added, added_row, phased, with_now, with_code, with_user, closed, taken}
@@ -59,7 +58,7 @@ begin_code d w n u name new few h = record {
   new_names = h.new_names;
   codes = h.codes;
   users = h.users;
-  fits = (record { labelled = name; few = omega arith; range = tt; built = tt }, u);
+  fits = (record { labelled = name; few = omega arith; range = tt }, u);
 }
 
 pub code_step : (d : Read) (ws : List Text) → head_cause (seen_in d) Code ws ≡ None → IsDraft d → Steps d (taken d Code ws) (head_text Code ∷ ws)
@@ -141,7 +140,7 @@ begin_user d w n name new few h = record {
   new_names = distinct_more d.names w new h.new_names;
   codes = h.codes;
   users = h.users;
-  fits = record { named = name; some = omega arith; counted = refl; few = omega arith; range = (tt, tt); built = (tt, tt) };
+  fits = record { named = name; some = omega arith; counted = refl; few = omega arith; range = (tt, tt) };
 }
 
 pub no_body : (o : Opened) → place_in o ≢ InBody → (label : Text) (body : List Request) → o ≢ BodyOpen label body
@@ -177,7 +176,6 @@ next_asker blocks name phases count few h = record {
   counted = sum_by-append (λ (p : List Request). length p + 1) phases ([] ∷ []) ∙ ap (λ (n : ℕ). n + 1) h.counted;
   few = omega (arith, few);
   range = all_append (AllByRecursion (InRange blocks)) phases ([] ∷ []) h.range (tt, tt);
-  built = all_append (AllByRecursion IsBuiltRequest) phases ([] ∷ []) h.built (tt, tt);
 }
 
 next_draft : (d : Read) (name : Text) (phases : List (List Request)) (requests : List Request) (count : ℕ) → count < 240 → IsDraft (with_now d (UserOpen name phases requests count)) → IsDraft (with_now d (phased (UserOpen name phases requests count)))
@@ -211,9 +209,9 @@ phase_step d ws e h =
 
 -- ---- requests
 
-last_asker : (blocks : ℕ) (name : Text) (phases : List (List Request)) (rs : List Request) (r : Request) (count : ℕ) → count < 240 → InRange blocks r → IsBuiltRequest r
+last_asker : (blocks : ℕ) (name : Text) (phases : List (List Request)) (rs : List Request) (r : Request) (count : ℕ) → count < 240 → InRange blocks r
     → IsAsker blocks (record { name = name; phases = phases ++ rs ∷ [] }) count → IsAsker blocks (record { name = name; phases = phases ++ (rs ++ r ∷ []) ∷ [] }) (count + 1)
-last_asker blocks name phases rs r count few range built h =
+last_asker blocks name phases rs r count few range h =
     let f : List Request → ℕ = λ p. length p + 1 in
     let one : (p : List Request) → sum_by f (phases ++ p ∷ []) ≡ sum_by f phases + (length p + 1) = λ p. sum_by-append f phases (p ∷ []) ∙ ap (λ (n : ℕ). sum_by f phases + n) (sum_by-cons f p [] ∙ (let z : f p + 0 ≡ length p + 1 = omega arith in z)) in
     record {
@@ -223,16 +221,14 @@ last_asker blocks name phases rs r count few range built h =
       few = omega (arith, few);
       range = all_append (AllByRecursion (InRange blocks)) phases ((rs ++ r ∷ []) ∷ []) (all_front (AllByRecursion (InRange blocks)) phases (rs ∷ []) h.range)
           (all_append (InRange blocks) rs (r ∷ []) (all_last (AllByRecursion (InRange blocks)) phases rs h.range) (range, tt), tt);
-      built = all_append (AllByRecursion IsBuiltRequest) phases ((rs ++ r ∷ []) ∷ []) (all_front (AllByRecursion IsBuiltRequest) phases (rs ∷ []) h.built)
-          (all_append IsBuiltRequest rs (r ∷ []) (all_last (AllByRecursion IsBuiltRequest) phases rs h.built) (built, tt), tt);
     }
 
 label_count : (labels : List Text) (cs : List CodeBlock) (o : Opened) → labels ≡ map label_of (cs ++ open_codes o) → length labels ≡ length cs + length (open_codes o)
 label_count labels cs o e = ap length e ∙ length-map (cs ++ open_codes o) label_of ∙ length-append cs (open_codes o)
 
-asked_draft : (d : Read) (o : Opened) (r : Request) → place_in o ≢ Outside → count_in o < line_limit (place_in o) → InRange (length d.labels) r → IsBuiltRequest r → IsDraft (with_now d o) → IsDraft (with_now d (added o r))
-asked_draft d NoneOpen r place few range built h = absurd (place refl)
-asked_draft d (BodyOpen label body) r place few range built h =
+asked_draft : (d : Read) (o : Opened) (r : Request) → place_in o ≢ Outside → count_in o < line_limit (place_in o) → InRange (length d.labels) r → IsDraft (with_now d o) → IsDraft (with_now d (added o r))
+asked_draft d NoneOpen r place few range h = absurd (place refl)
+asked_draft d (BodyOpen label body) r place few range h =
     let P : ℕ → Type 0 = λ n. InRange n r in
     let in_block : InRange (length d.codes + 1) r = subst P (label_count d.labels d.codes (BodyOpen label body) h.labels) range in
     record {
@@ -249,12 +245,11 @@ asked_draft d (BodyOpen label body) r place few range built h =
           labelled = h.fits.0.labelled;
           few = omega (arith, few, length-append body (r ∷ []));
           range = all_append (InRange (length d.codes + 1)) body (r ∷ []) h.fits.0.range (in_block, tt);
-          built = all_append IsBuiltRequest body (r ∷ []) h.fits.0.built (built, tt);
         },
         h.fits.1,
       );
     }
-asked_draft d (UserOpen name phases requests count) r place few range built h =
+asked_draft d (UserOpen name phases requests count) r place few range h =
     let P : ℕ → Type 0 = λ n. InRange n r in
     let same : length d.labels ≡ length d.codes = omega (arith, label_count d.labels d.codes (UserOpen name phases requests count) h.labels) in
     record {
@@ -266,7 +261,7 @@ asked_draft d (UserOpen name phases requests count) r place few range built h =
       new_names = h.new_names;
       codes = h.codes;
       users = h.users;
-      fits = last_asker (length d.codes) name phases requests r count few (subst P same range) built h.fits;
+      fits = last_asker (length d.codes) name phases requests r count few (subst P same range) h.fits;
     }
 
 something_open : (o : Opened) → place_in o ≢ Outside → o ≢ NoneOpen
@@ -279,7 +274,7 @@ ask_step d v ws e h =
     let row = row_takes d.labels [] v ws r p.row in
     let P : Result Request Cause → Type 0 = λ q. Steps d (with_now d (added_row d.now q)) (verb_text v ∷ ws) in
     subst P (sym p.row) (record {
-      draft = asked_draft d d.now r p.place p.few row.range (row.built p.built) h;
+      draft = asked_draft d d.now r p.place p.few row.range h;
       lines = λ rest. asked_lines (d.labels ++ rest) d d.now r (something_open d.now p.place) ∙ ap (λ (t : List Text). read_lines (d.labels ++ rest) d ++ t ∷ []) (row_takes d.labels rest v ws r p.row).words;
       more = [];
       grows = sym (append-nil d.labels);

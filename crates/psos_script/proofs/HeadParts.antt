@@ -10,9 +10,9 @@ use Rattle.psos_calls.specs.declared.request.Request.{Request}
 use Rattle.psos_calls.specs.Script.{AreDistinct}
 use Rattle.psos_model.specs.Operands.{Text}
 use Rattle.psos_script.specs.Operands.{is_operand}
-use Rattle.psos_script.specs.Table.{verb_classes, is_built}
+use Rattle.psos_script.specs.Table.{verb_classes}
 use Rattle.psos_script.specs.Values.{row_of, cause_in}
-use Rattle.psos_script.specs.Fault.{Seen, is_among, is_outside, is_no_end, is_late_code, operands_cause, known_cause, empty_cause, many_cause, not_built_cause, line_limit, where_true, ◌or◌, head_cause}
+use Rattle.psos_script.specs.Fault.{Seen, is_among, is_outside, is_no_end, is_late_code, operands_cause, known_cause, empty_cause, many_cause, line_limit, where_true, ◌or◌, head_cause}
 use Rattle.psos_script.proofs.RowLaws.{row_cause}
 use Rattle.psos_script.specs.declared.class.Class.{Class}
 use Rattle.psos_script.specs.declared.class.Class.TheVariants.{Name, Label}
@@ -31,24 +31,23 @@ where_none true c e = absurd cc
 where_none false c e = refl
 
 -- no part of the chain is a cause
-pub record NoPart (a b c e f g h i : Option Cause) : Type 0 where
+pub record NoPart (a b c d e f g : Option Cause) : Type 0 where
   pub outside : a ≡ None
   pub no_end : b ≡ None
   pub late : c ≡ None
-  pub operands : e ≡ None
-  pub known : f ≡ None
-  pub empty : g ≡ None
-  pub many : h ≡ None
-  pub built : i ≡ None
+  pub operands : d ≡ None
+  pub known : e ≡ None
+  pub empty : f ≡ None
+  pub many : g ≡ None
 
-pub no_part : (a b c e f g h i : Option Cause) → (a or (b or (c or (e or (f or (g or (h or i))))))) ≡ None → NoPart a b c e f g h i
-no_part None None None None None None None None k = record { outside = refl; no_end = refl; late = refl; operands = refl; known = refl; empty = refl; many = refl; built = refl }
-no_part a b c e f g h i k = absurd cc
+pub no_part : (a b c d e f g : Option Cause) → (a or (b or (c or (d or (e or (f or g)))))) ≡ None → NoPart a b c d e f g
+no_part None None None None None None None k = record { outside = refl; no_end = refl; late = refl; operands = refl; known = refl; empty = refl; many = refl }
+no_part a b c d e f g k = absurd cc
 
 -- the parts of a head's chain
 abbrev pub HeadParts : Seen → Head → List Class → List Text → Type 0
 HeadParts s h cs ws = NoPart (where_true (is_outside h s.place) C.Outside) (where_true (is_no_end h s.place) C.NoEnd) (where_true (is_late_code h s.names) C.CodeAfterUser)
-    (operands_cause cs ws) (known_cause h s ws) (empty_cause h s.count) (many_cause h s) (not_built_cause h)
+    (operands_cause cs ws) (known_cause h s ws) (empty_cause h s.count) (many_cause h s)
 
 -- ---- operands
 
@@ -133,7 +132,7 @@ pub record CodeParts (s : Seen) (ws : List Text) : Type 0 where
 pub code_parts : (s : Seen) (ws : List Text) → head_cause s Code ws ≡ None → CodeParts s ws
 unfolding head_cause known_cause many_cause is_operand
 code_parts s ws e =
-    let p : HeadParts s Code (Label ∷ []) ws = no_part _ _ _ _ _ _ _ _ e in
+    let p : HeadParts s Code (Label ∷ []) ws = no_part _ _ _ _ _ _ _ e in
     let one = one_operand Label ws p.operands in
     let new : is_among (get_or ws 0 []) s.labels ≡ false = twice_none _ _ p.known in
     let full : leb 64 (length s.labels) ≡ false = twice_none _ _ p.many in
@@ -150,7 +149,7 @@ pub record UserParts (s : Seen) (ws : List Text) : Type 0 where
 pub user_parts : (s : Seen) (ws : List Text) → head_cause s User ws ≡ None → UserParts s ws
 unfolding head_cause known_cause many_cause is_operand
 user_parts s ws e =
-    let p : HeadParts s User (Name ∷ []) ws = no_part _ _ _ _ _ _ _ _ e in
+    let p : HeadParts s User (Name ∷ []) ws = no_part _ _ _ _ _ _ _ e in
     let one = one_operand Name ws p.operands in
     let new : is_among (get_or ws 0 []) s.names ≡ false = twice_none _ _ p.known in
     let full : leb 8 (length s.names) ≡ false = twice_none _ _ p.many in
@@ -173,7 +172,7 @@ pub record EndParts (s : Seen) (ws : List Text) : Type 0 where
 pub end_parts : (s : Seen) (ws : List Text) → head_cause s End ws ≡ None → EndParts s ws
 unfolding head_cause empty_cause
 end_parts s ws e =
-    let p : HeadParts s End [] ws = no_part _ _ _ _ _ _ _ _ e in
+    let p : HeadParts s End [] ws = no_part _ _ _ _ _ _ _ e in
     let empty : eqb s.count 0 ≡ false = twice_none _ _ p.empty in
     record { place = in_block s.place p.outside; none = no_operand ws p.operands; some = grind (arith, empty) }
 
@@ -191,7 +190,7 @@ pub record PhaseParts (s : Seen) (ws : List Text) : Type 0 where
 pub phase_parts : (s : Seen) (ws : List Text) → head_cause s Phase ws ≡ None → PhaseParts s ws
 unfolding head_cause many_cause
 phase_parts s ws e =
-    let p : HeadParts s Phase [] ws = no_part _ _ _ _ _ _ _ _ e in
+    let p : HeadParts s Phase [] ws = no_part _ _ _ _ _ _ _ e in
     let place = in_user s.place p.outside in
     let full : leb (line_limit s.place) s.count ≡ false = twice_none _ _ p.many in
     let full240 : leb 240 s.count ≡ false = ap (λ (q : Place). leb (line_limit q) s.count) (sym place) ∙ full in
@@ -204,13 +203,6 @@ not_outside v Outside e q = absurd cc
 not_outside v InBody e q = absurd cc
 not_outside v InUser e q = absurd cc
 
-built_none : (v : Verb) → not_built_cause (Asks v) ≡ None → is_built v ≡ true
-unfolding not_built_cause
-built_none v e = so (is_built v) e where
-  so : (b : Bool) → cond b None (Some C.NotBuilt) ≡ None → b ≡ true
-  so true e = refl
-  so false e = absurd cc
-
 ok_row : (x : Result Request Cause) → cause_in x ≡ None → (r : Request) × (x ≡ Ok r)
 ok_row (Ok r) e = (r, refl)
 ok_row (Err c) e = absurd cc
@@ -220,12 +212,11 @@ pub record AskParts (s : Seen) (v : Verb) (ws : List Text) : Type 0 where
   pub request : Request
   pub row : row_of s.labels v ws ≡ Ok request
   pub few : s.count < line_limit s.place
-  pub built : is_built v ≡ true
 
 pub ask_parts : (s : Seen) (v : Verb) (ws : List Text) → head_cause s (Asks v) ws ≡ None → AskParts s v ws
 unfolding head_cause many_cause
 ask_parts s v ws e =
-    let p : HeadParts s (Asks v) (verb_classes v) ws = no_part _ _ _ _ _ _ _ _ e in
+    let p : HeadParts s (Asks v) (verb_classes v) ws = no_part _ _ _ _ _ _ _ e in
     let row = ok_row (row_of s.labels v ws) (row_cause s v ws ∙ ap (λ (k : Option Cause). k or known_cause (Asks v) s ws) p.operands ∙ p.known) in
     let full : leb (line_limit s.place) s.count ≡ false = twice_none _ _ p.many in
-    record { place = not_outside v s.place p.outside; request = row.0; row = row.1; few = grind (arith, full); built = built_none v p.built }
+    record { place = not_outside v s.place p.outside; request = row.0; row = row.1; few = grind (arith, full) }

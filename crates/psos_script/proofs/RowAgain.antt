@@ -1,5 +1,5 @@
 -- The words of a request are read as that request.
-use Rattle.std.proofs.Common.{rules, ◌≡◌, ℕ, ◌<◌, ◌≤◌, true, zero, suc, List, [], ◌∷◌, ◌++◌, length, get_or, Result, Ok, refl, ap, ◌∙◌, arith}
+use Rattle.std.proofs.Common.{◌≡◌, ℕ, ◌<◌, ◌≤◌, zero, suc, List, [], ◌∷◌, ◌++◌, length, get_or, Result, Ok, refl, ap, ◌∙◌, arith}
 use Rattle.std.specs.Prelude.{IsTrue}
 use Rattle.std.specs.List.{AllByRecursion}
 use Rattle.std.proofs.lemmas.Bool.{lt-ltb}
@@ -11,8 +11,7 @@ use Rattle.psos_calls.specs.declared.request.Request.TheVariants as R
 use Rattle.psos_calls.specs.Request.{InRange}
 use Rattle.psos_model.specs.Operands.{Text}
 use Rattle.psos_model.specs.RequestWords.{request_words}
-use Rattle.psos_model.specs.Spelling.{IsBuiltRequest}
-use Rattle.psos_script.specs.Table.{verb_classes, verb_text, is_built}
+use Rattle.psos_script.specs.Table.{verb_classes, verb_text}
 use Rattle.psos_script.specs.Values.{Values, take_of, none_left, values_of, value_words, number_among, ◌>>=◌, row_of, check_label}
 use Rattle.psos_script.proofs.OperandLaws.{value_again}
 use Rattle.psos_script.proofs.RowLaws.{ValuesFit}
@@ -179,35 +178,6 @@ row_again labels rest (R.Recv rd) k range h = ap (λ (q : Result (Values (verb_c
 row_again labels rest (R.Call rp) k range h = ap (λ (q : Result (Values (verb_classes V.Call)) Cause). q >>= λ vs. check_label labels V.Call vs) (values_again (verb_classes V.Call) (values (labels ++ rest) (R.Call rp)) h)
 row_again labels rest (R.Path rs) k range h = ap (λ (q : Result (Values (verb_classes V.Path)) Cause). q >>= λ vs. check_label labels V.Path vs) (values_again (verb_classes V.Path) (values (labels ++ rest) (R.Path rs)) h)
 row_again labels rest (R.Find rd name) k range h = ap (λ (q : Result (Values (verb_classes V.Find)) Cause). q >>= λ vs. check_label labels V.Find vs) (values_again (verb_classes V.Find) (values (labels ++ rest) (R.Find rd name)) h)
-
--- its verb is built where it is
-pub verb_built : (r : Request) → IsBuiltRequest r → is_built (verb r) ≡ true
-unfolding is_built
-verb_built (R.Mint rd) h = search rules
-verb_built (R.Restrict rd rs keep) h = search rules
-verb_built (R.Set rd n) h = search rules
-verb_built (R.Move rd rs) h = search rules
-verb_built (R.Add rd ra rb) h = search rules
-verb_built (R.Read rd rs n) h = search rules
-verb_built (R.Write rs n rv) h = search rules
-verb_built (R.Window rd rs base len) h = search rules
-verb_built (R.Length rd rs) h = search rules
-verb_built (R.Lookup rd rs name) h = search rules
-verb_built (R.Bind rs name rv) h = search rules
-verb_built (R.Unbind rs name) h = search rules
-verb_built (R.List rs) h = search rules
-verb_built (R.Impl rd rt ro) h = search rules
-verb_built (R.MkSeg rd rs name len guard) h = search rules
-verb_built (R.MkDir rd rs name guard) h = search rules
-verb_built (R.MkType rd rs name) h = search rules
-verb_built (R.MkObj rd rt rs name len) h = search rules
-verb_built (R.MkCode rd rs name label rl) h = search rules
-verb_built (R.Delete rs name) h = search rules
-verb_built (R.Send rp rv) h = search rules
-verb_built (R.Recv rd) h = search rules
-verb_built (R.Call rp) h = search rules
-verb_built (R.Path rs) h = search rules
-verb_built (R.Find rd name) h = search rules
 
 -- where more blocks have begun it is in range too
 pub range_grows : (few many : ℕ) (r : Request) → few ≤ many → InRange few r → InRange many r

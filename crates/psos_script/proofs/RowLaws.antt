@@ -10,9 +10,9 @@ use Rattle.psos_calls.specs.declared.request.Request.{Request}
 use Rattle.psos_calls.specs.declared.request.Request.TheVariants as R
 use Rattle.psos_model.specs.Operands.{Text}
 use Rattle.psos_script.specs.Operands.{is_operand}
-use Rattle.psos_script.specs.Table.{verb_classes, head_text, heads, head_among, head_of, is_built}
+use Rattle.psos_script.specs.Table.{verb_classes, head_text, heads, head_among, head_of}
 use Rattle.psos_script.specs.Values.{Values, value_of, take_of, none_left, values_of, build, value_words, number_among, or_cause, ◌>>=◌, row_of, check_label, cause_in}
-use Rattle.psos_script.specs.Fault.{Seen, is_among, operands_cause, known_cause, not_built_cause, ◌or◌, row_limit_cause, where_true}
+use Rattle.psos_script.specs.Fault.{Seen, is_among, operands_cause, known_cause, ◌or◌, row_limit_cause, where_true}
 use Rattle.psos_script.proofs.OperandLaws.{IsValue, value_takes}
 use Rattle.psos_script.proofs.Lists.{among_position}
 use Rattle.psos_script.specs.declared.class.Class.{Class}
@@ -190,31 +190,20 @@ grouped : (a b d : Option Cause) → (a or (b or d)) ≡ ((a or b) or d)
 grouped None b d = refl
 grouped (Some c) b d = refl
 
--- the causes behind the row's own
-abbrev pub last_causes : Seen → Verb → ℕ → Option Cause
-last_causes s v limit = where_true (leb limit s.count) C.TooManyLines or not_built_cause (Asks v)
+-- the cause behind the row's own
+abbrev pub last_cause : Seen → ℕ → Option Cause
+last_cause s limit = where_true (leb limit s.count) C.TooManyLines
 
 pub row_fault : (s : Seen) (v : Verb) (ws : List Text) (limit : ℕ) (c : Cause) → row_of s.labels v ws ≡ Err c → row_limit_cause s v ws limit ≡ Some c
 row_fault s v ws limit c is =
-    grouped (operands_cause (verb_classes v) ws) (known_cause (Asks v) s ws) (last_causes s v limit) ∙ ap (λ (k : Option Cause). k or last_causes s v limit) (cause_err (row_of s.labels v ws) _ c (row_cause s v ws) is)
+    grouped (operands_cause (verb_classes v) ws) (known_cause (Asks v) s ws) (last_cause s limit) ∙ ap (λ (k : Option Cause). k or last_cause s limit) (cause_err (row_of s.labels v ws) _ c (row_cause s v ws) is)
 
-pub row_rest : (s : Seen) (v : Verb) (ws : List Text) (limit : ℕ) (r : Request) → row_of s.labels v ws ≡ Ok r → row_limit_cause s v ws limit ≡ last_causes s v limit
+pub row_rest : (s : Seen) (v : Verb) (ws : List Text) (limit : ℕ) (r : Request) → row_of s.labels v ws ≡ Ok r → row_limit_cause s v ws limit ≡ last_cause s limit
 row_rest s v ws limit r is =
-    grouped (operands_cause (verb_classes v) ws) (known_cause (Asks v) s ws) (last_causes s v limit) ∙ ap (λ (k : Option Cause). k or last_causes s v limit) (cause_ok (row_of s.labels v ws) _ r (row_cause s v ws) is)
+    grouped (operands_cause (verb_classes v) ws) (known_cause (Asks v) s ws) (last_cause s limit) ∙ ap (λ (k : Option Cause). k or last_cause s limit) (cause_ok (row_of s.labels v ws) _ r (row_cause s v ws) is)
 
 pub row_full : (s : Seen) (v : Verb) (ws : List Text) (limit : ℕ) (r : Request) → row_of s.labels v ws ≡ Ok r → limit ≤ s.count → row_limit_cause s v ws limit ≡ Some C.TooManyLines
-row_full s v ws limit r is le = row_rest s v ws limit r is ∙ ap (λ (b : Bool). where_true b C.TooManyLines or not_built_cause (Asks v)) (le-leb limit s.count le)
+row_full s v ws limit r is le = row_rest s v ws limit r is ∙ ap (λ (b : Bool). where_true b C.TooManyLines) (le-leb limit s.count le)
 
-not_built_so : (v : Verb) (b : Bool) → is_built v ≡ b → not_built_cause (Asks v) ≡ cond b None (Some C.NotBuilt)
-unfolding not_built_cause
-not_built_so v b e = ap (λ (t : Bool). cond t None (Some C.NotBuilt)) e
-
-row_room : (s : Seen) (v : Verb) (ws : List Text) (limit : ℕ) (r : Request) (b : Bool) → row_of s.labels v ws ≡ Ok r → s.count < limit → is_built v ≡ b → row_limit_cause s v ws limit ≡ cond b None (Some C.NotBuilt)
-row_room s v ws limit r b is lt e =
-    row_rest s v ws limit r is ∙ ap (λ (b : Bool). where_true b C.TooManyLines or not_built_cause (Asks v)) (lt-leb limit s.count lt) ∙ not_built_so v b e
-
-pub row_unbuilt : (s : Seen) (v : Verb) (ws : List Text) (limit : ℕ) (r : Request) → row_of s.labels v ws ≡ Ok r → s.count < limit → is_built v ≡ false → row_limit_cause s v ws limit ≡ Some C.NotBuilt
-row_unbuilt s v ws limit r is lt e = row_room s v ws limit r false is lt e
-
-pub row_fine : (s : Seen) (v : Verb) (ws : List Text) (limit : ℕ) (r : Request) → row_of s.labels v ws ≡ Ok r → s.count < limit → is_built v ≡ true → row_limit_cause s v ws limit ≡ None
-row_fine s v ws limit r is lt e = row_room s v ws limit r true is lt e
+pub row_fine : (s : Seen) (v : Verb) (ws : List Text) (limit : ℕ) (r : Request) → row_of s.labels v ws ≡ Ok r → s.count < limit → row_limit_cause s v ws limit ≡ None
+row_fine s v ws limit r is lt = row_rest s v ws limit r is ∙ ap (λ (b : Bool). where_true b C.TooManyLines) (lt-leb limit s.count lt)

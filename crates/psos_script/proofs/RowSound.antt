@@ -1,5 +1,5 @@
 -- What the row of a request gives has the row's words, and is in range.
-use Rattle.std.proofs.Common.{rules, ◌≡◌, ℕ, ◌+◌, ◌<◌, ltb, Bool, true, false, not, cond, suc, List, [], ◌∷◌, ◌++◌, length, get_or, Result, Ok, Err, inl, inr, refl, sym, ap, subst, ◌∙◌, arith}
+use Rattle.std.proofs.Common.{◌≡◌, ℕ, ◌+◌, ◌<◌, ltb, Bool, true, false, not, cond, suc, List, [], ◌∷◌, ◌++◌, length, get_or, Result, Ok, Err, inl, inr, refl, sym, ap, subst, ◌∙◌, arith}
 use Rattle.std.specs.Str.{bytes_eq}
 use Rattle.std.proofs.lemmas.Slice.Eq.{bytes_eq-Decides}
 use Rattle.std.proofs.lemmas.List.{get_or_append_left}
@@ -10,8 +10,7 @@ use Rattle.psos_calls.specs.declared.request.Request.TheVariants as R
 use Rattle.psos_calls.specs.Request.{InRange}
 use Rattle.psos_model.specs.Operands.{Text}
 use Rattle.psos_model.specs.RequestWords.{request_words}
-use Rattle.psos_model.specs.Spelling.{IsBuiltRequest}
-use Rattle.psos_script.specs.Table.{verb_classes, verb_text, is_built}
+use Rattle.psos_script.specs.Table.{verb_classes, verb_text}
 use Rattle.psos_script.specs.Values.{Values, values_of, build, value_words, number_among, ◌>>=◌, row_of, check_label}
 use Rattle.psos_script.proofs.RowLaws.{ok_is, ValuesFit, values_take}
 use Rattle.psos_script.specs.declared.cause.Cause.{Cause}
@@ -188,40 +187,10 @@ built_range labels all V.Call (rp, e) k h = h.0
 built_range labels all V.Path (rs, e) k h = h.0
 built_range labels all V.Find (rd, (name, e)) k h = (h.0, h.1.0)
 
--- it is built where its verb is
-built_row : (labels : List Text) (v : Verb) (vs : Values (verb_classes v)) → is_built v ≡ true → IsBuiltRequest (build labels v vs)
-unfolding is_built
-built_row labels V.Mint (rd, e) h = search rules
-built_row labels V.Restrict (rd, (rs, (keep, e))) h = search rules
-built_row labels V.Set (rd, (n, e)) h = search rules
-built_row labels V.Move (rd, (rs, e)) h = search rules
-built_row labels V.Add (rd, (ra, (rb, e))) h = search rules
-built_row labels V.Read (rd, (rs, (n, e))) h = search rules
-built_row labels V.Write (rs, (n, (rv, e))) h = search rules
-built_row labels V.Window (rd, (rs, (base, (len, e)))) h = search rules
-built_row labels V.Length (rd, (rs, e)) h = search rules
-built_row labels V.Lookup (rd, (rs, (name, e))) h = search rules
-built_row labels V.Bind (rs, (name, (rv, e))) h = search rules
-built_row labels V.Unbind (rs, (name, e)) h = search rules
-built_row labels V.List (rs, e) h = search rules
-built_row labels V.Impl (rd, (rt, (ro, e))) h = search rules
-built_row labels V.MkSeg (rd, (rs, (name, (len, (guard, e))))) h = search rules
-built_row labels V.MkDir (rd, (rs, (name, (guard, e)))) h = search rules
-built_row labels V.MkType (rd, (rs, (name, e))) h = search rules
-built_row labels V.MkObj (rd, (rt, (rs, (name, (len, e))))) h = search rules
-built_row labels V.MkCode (rd, (rs, (name, (label, (rl, e))))) h = search rules
-built_row labels V.Delete (rs, (name, e)) h = search rules
-built_row labels V.Send (rp, (rv, e)) h = search rules
-built_row labels V.Recv (rd, e) h = search rules
-built_row labels V.Call (rp, e) h = search rules
-built_row labels V.Path (rs, e) h = search rules
-built_row labels V.Find (rd, (name, e)) h = search rules
-
 -- what is so of the request of a row: where the labels go on, it has the same words
 pub record IsRow (labels all : List Text) (v : Verb) (ws : List Text) (r : Request) : Type 0 where
   pub words : request_words all r ≡ verb_text v ∷ ws
   pub range : InRange (length labels) r
-  pub built : is_built v ≡ true → IsBuiltRequest r
 
 pub row_takes : (labels rest : List Text) (v : Verb) (ws : List Text) (r : Request) → row_of labels v ws ≡ Ok r → IsRow labels (labels ++ rest) v ws r
 row_takes labels rest v ws r e =
@@ -233,5 +202,4 @@ row_takes labels rest v ws r e =
     subst P made.0 (record {
       words = built_words labels (labels ++ rest) v vs made.1 ∙ ap (λ (t : List Text). verb_text v ∷ t) (sym took.0);
       range = built_range labels (labels ++ rest) v vs made.1 took.1;
-      built = built_row labels v vs;
     })

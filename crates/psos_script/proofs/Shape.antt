@@ -7,7 +7,7 @@ use Rattle.psos_calls.specs.declared.request.Request.{Request}
 use Rattle.psos_calls.specs.Request.{InRange}
 use Rattle.psos_calls.specs.Script.{CodeBlock, UserScript, AreDistinct}
 use Rattle.psos_model.specs.Operands.{Text}
-use Rattle.psos_model.specs.Spelling.{IsBuiltRequest, requests_lines, code_lines, user_lines}
+use Rattle.psos_model.specs.Spelling.{requests_lines, code_lines, user_lines}
 use Rattle.psos_script.specs.Draft.{Read, Opened, NoneOpen, BodyOpen, UserOpen, open_codes, open_users}
 
 abbrev pub label_of : CodeBlock → Text
@@ -35,7 +35,6 @@ pub record IsBlock (blocks : ℕ) (c : CodeBlock) : Type 0 where
   pub labelled : IsTrue (is_name c.label)
   pub few : length c.body ≤ 16
   pub range : AllByRecursion (InRange blocks) c.body
-  pub built : AllByRecursion IsBuiltRequest c.body
 
 -- finished blocks, behind so many
 abbrev pub AreBlocks : ℕ → List CodeBlock → Type 0
@@ -49,7 +48,6 @@ pub record IsAsker (blocks : ℕ) (u : UserScript) (count : ℕ) : Type 0 where
   pub counted : sum_by (λ (p : List Request). length p + 1) u.phases ≡ count + 1
   pub few : count ≤ 240
   pub range : AllByRecursion (AllByRecursion (InRange blocks)) u.phases
-  pub built : AllByRecursion (AllByRecursion IsBuiltRequest) u.phases
 
 abbrev pub AreAskers : ℕ → List UserScript → Type 0
 AreAskers blocks users = AllByRecursion (λ (u : UserScript). (count : ℕ) × IsAsker blocks u count) users

@@ -8,9 +8,9 @@ use Rattle.psos_text.specs.Lines.{lines_of, words_of}
 use Rattle.psos_text.proofs.Steps.{chosen}
 use Rattle.psos_calls.specs.declared.request.Request.{Request}
 use Rattle.psos_calls.specs.Request.{InRange}
-use Rattle.psos_calls.specs.Script.{CodeBlock, UserScript, IsCodeBlock, IsUserScript, AreDistinct}
+use Rattle.psos_calls.specs.Script.{CodeBlock, UserScript, IsCodeBlock, IsUserScript, AreDistinct, IsWellFormed}
 use Rattle.psos_model.specs.Operands.{Text}
-use Rattle.psos_model.specs.Spelling.{labels_of, code_lines, user_lines, is_skipped, kept, is_printable, is_line, IsBuiltUser, IsBuiltCode, IsBuilt, AreInOrder, IsScript}
+use Rattle.psos_model.specs.Spelling.{labels_of, code_lines, user_lines, is_skipped, kept, is_printable, is_line, AreInOrder, IsScript}
 use Rattle.psos_script.specs.Table.{head_of, head_text}
 use Rattle.psos_script.specs.Fault.{Seen, at_line, line_cause, words_cause, headed_cause, end_cause, in_body, some_names, where_true, fault_of, fault_from}
 use Rattle.psos_script.specs.Draft.{Read, seen_in, closed, taken, after_line, after_headed, nothing_read, fault_after, read_after, script_of, script_in}
@@ -139,19 +139,11 @@ code_blocks before blocks [] le h = tt
 code_blocks before blocks (c ∷ cs) le h =
     (record { labelled = h.0.0.labelled; some = h.0.1; few = h.0.0.few; in_range = range_all (before + 1) blocks c.body (omega (arith, le)) h.0.0.range }, code_blocks (before + 1) blocks cs (omega (arith, le)) h.1)
 
-built_codes : (before : ℕ) (cs : List CodeBlock) → AreBlocks before cs → AllByRecursion IsBuiltCode cs
-built_codes before [] h = tt
-built_codes before (c ∷ cs) h = (h.0.0.built, built_codes (before + 1) cs h.1)
-
 user_scripts : (blocks : ℕ) (us : List UserScript) → AreAskers blocks us → AllByRecursion (IsUserScript blocks) us
 user_scripts blocks [] h = tt
 user_scripts blocks (u ∷ us) h =
     let a = h.0.1 in
     (record { named = a.named; some = a.some; few = omega (arith, a.counted, a.few); in_range = a.range }, user_scripts blocks us h.1)
-
-built_users : (blocks : ℕ) (us : List UserScript) → AreAskers blocks us → AllByRecursion IsBuiltUser us
-built_users blocks [] h = tt
-built_users blocks (u ∷ us) h = (h.0.1.built, built_users blocks us h.1)
 
 over_place : (p : Place) → where_true (in_body p) C.NoEnd ≡ None → p ≢ InBody
 unfolding in_body
@@ -167,23 +159,19 @@ over_parts : (s : Seen) → end_cause s ≡ None → (s.place ≢ InBody) × (1 
 unfolding end_cause
 over_parts s e = let p = or_left (where_true (in_body s.place) C.NoEnd) (where_true (not (some_names s.names)) C.NoUser) e in (over_place s.place p.0, over_names s.names p.1)
 
--- what is finished is a script that is built
+-- what is finished is a script that is well formed
 finished : (d : Read) (cs : List CodeBlock) (us : List UserScript) → d.labels ≡ map label_of cs → d.names ≡ map named us → AreBlocks 0 cs → AreAskers (length cs) us → IsDraft d → 1 ≤ length d.names
-    → IsBuilt (record { users = us; codes = cs })
+    → IsWellFormed (record { users = us; codes = cs })
 finished d cs us l n blocks askers h some =
     let P : List Text → Type 0 = λ ls. AreDistinct ls in
     record {
-      well_formed = record {
-        some_users = omega (arith, some, ap length n, length-map us named);
-        few_users = omega (arith, h.few_names, ap length n, length-map us named);
-        few_codes = omega (arith, h.few_labels, ap length l, length-map cs label_of);
-        codes = code_blocks 0 (length cs) cs (omega arith) blocks;
-        users = user_scripts (length cs) us askers;
-        labels = subst P l h.new_labels;
-        names = subst P n h.new_names;
-      };
-      users = built_users (length cs) us askers;
-      codes = built_codes 0 cs blocks;
+      some_users = omega (arith, some, ap length n, length-map us named);
+      few_users = omega (arith, h.few_names, ap length n, length-map us named);
+      few_codes = omega (arith, h.few_labels, ap length l, length-map cs label_of);
+      codes = code_blocks 0 (length cs) cs (omega arith) blocks;
+      users = user_scripts (length cs) us askers;
+      labels = subst P l h.new_labels;
+      names = subst P n h.new_names;
     }
 
 empty_draft : IsDraft nothing_read
@@ -219,5 +207,5 @@ sound bytes e =
       lines = all.are_lines;
       spelled = subst P same (sym spelled ∙ ap (λ (us : List (List Text)). flat_map (code_lines (d.labels ++ [])) s.codes ++ us) (append-nil (flat_map (user_lines (d.labels ++ [])) s.users)));
       order = in_order 0 s.codes last.codes;
-      built = finished (closed d) s.codes s.users labels names last.codes last.users last over.1;
+      well_formed = finished (closed d) s.codes s.users labels names last.codes last.users last over.1;
     }

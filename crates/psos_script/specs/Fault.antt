@@ -6,7 +6,7 @@ use Rattle.psos_text.specs.Lines.{lines_of, words_of}
 use Rattle.psos_model.specs.Operands.{Text}
 use Rattle.psos_model.specs.Spelling.{is_skipped, is_printable}
 use Rattle.psos_script.specs.Operands.{is_operand}
-use Rattle.psos_script.specs.Table.{head_of, classes, verb_classes, is_built}
+use Rattle.psos_script.specs.Table.{head_of, classes, verb_classes}
 use Rattle.psos_script.specs.declared.class.Class.{Class}
 use Rattle.psos_script.specs.declared.cause.Cause.{Cause}
 use Rattle.psos_script.specs.declared.cause.Cause.TheVariants as C
@@ -178,11 +178,6 @@ many_cause Phase s = if nat_le (line_limit s.place) s.count then Some C.TooManyL
 many_cause (Asks v) s = if nat_le (line_limit s.place) s.count then Some C.TooManyLines else None
 many_cause End s = None
 
--- a request that is not built yet
-unfoldable pub not_built_cause : Head → Option Cause
-not_built_cause (Asks v) = if is_built v then None else Some C.NotBuilt
-not_built_cause h = None
-
 -- the first cause that holds
 infixr 10 ◌or◌
 abbrev pub ◌or◌ : Option Cause → Option Cause → Option Cause
@@ -198,8 +193,7 @@ abbrev pub row_limit_cause : Seen → Verb → List Text → ℕ → Option Caus
 row_limit_cause s v ws limit =
     operands_cause (verb_classes v) ws
     or (known_cause (Asks v) s ws
-    or (where_true (nat_le limit s.count) C.TooManyLines
-    or not_built_cause (Asks v)))
+    or where_true (nat_le limit s.count) C.TooManyLines)
 
 -- the causes of a line with this first word, behind `unknown word`
 unfoldable pub head_cause : Seen → Head → List Text → Option Cause
@@ -209,8 +203,7 @@ head_cause s h ws =
     or (where_true (is_late_code h s.names) C.CodeAfterUser
     or (operands_cause (classes h) ws
     or (known_cause h s ws
-    or (empty_cause h s.count
-    or (many_cause h s or not_built_cause h))))))
+    or (empty_cause h s.count or many_cause h s)))))
 
 -- a first word that begins no line is the cause
 abbrev pub headed_cause : Seen → Option Head → List Text → Option Cause

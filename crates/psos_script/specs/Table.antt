@@ -1,5 +1,5 @@
 -- The words that begin lines, and the classes of their operands. States docs/program.md, "Scripts".
-use Rattle.std.specs.Prelude.{Bool, true, false, if◌then◌else◌, List, [], ◌∷◌, codes, Option, Some, None}
+use Rattle.std.specs.Prelude.{if◌then◌else◌, List, [], ◌∷◌, codes, Option, Some, None}
 use Rattle.std.specs.Str.{bytes_eq}
 use Rattle.psos_model.specs.Operands.{Text}
 use Rattle.psos_script.specs.declared.class.Class.{Class}
@@ -93,16 +93,3 @@ classes End = []
 classes User = Name ∷ []
 classes Phase = []
 classes (Asks v) = verb_classes v
-
--- one row for each request that is built today
-unfoldable pub is_built : Verb → Bool
-is_built V.Mint = true
-is_built V.Restrict = true
-is_built V.Set = true
-is_built V.Move = true
-is_built V.Add = true
-is_built V.Read = true
-is_built V.Write = true
-is_built V.Window = true
-is_built V.Length = true
-is_built _ = false

@@ -40,6 +40,4 @@ pub enum Cause {
     TooManyLines,
     /// There is no user. The line is the one behind the last.
     NoUser,
-    /// The request is well formed and not built yet.
-    NotBuilt,
 }

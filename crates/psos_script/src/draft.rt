@@ -45,7 +45,7 @@ impl Draft {
     }
 
     // The line `code`, behind its first word.
-    #[tactic(auto, unfolding(crate::specs::Fault::head_cause, crate::specs::Fault::is_outside, crate::specs::Fault::is_no_end, crate::specs::Fault::is_late_code, crate::specs::Fault::known_cause, crate::specs::Fault::empty_cause, crate::specs::Fault::many_cause, crate::specs::Fault::not_built_cause))]
+    #[tactic(auto, unfolding(crate::specs::Fault::head_cause, crate::specs::Fault::is_outside, crate::specs::Fault::is_no_end, crate::specs::Fault::is_late_code, crate::specs::Fault::known_cause, crate::specs::Fault::empty_cause, crate::specs::Fault::many_cause))]
     pub(crate) fn code_line(&mut self, alloc: Global, text: &[u8]) -> Result<(), LineFault>
         ensures { Reads (head_cause (seen_in (read self.old)) Head.Code (words_of text.now)) (taken (read self.old) Head.Code (words_of text.now)) result (read self.new) }
     {
@@ -84,7 +84,7 @@ impl Draft {
     }
 
     // The line `user`, behind its first word.
-    #[tactic(auto, unfolding(crate::specs::Fault::head_cause, crate::specs::Fault::is_outside, crate::specs::Fault::is_no_end, crate::specs::Fault::is_late_code, crate::specs::Fault::known_cause, crate::specs::Fault::empty_cause, crate::specs::Fault::many_cause, crate::specs::Fault::not_built_cause))]
+    #[tactic(auto, unfolding(crate::specs::Fault::head_cause, crate::specs::Fault::is_outside, crate::specs::Fault::is_no_end, crate::specs::Fault::is_late_code, crate::specs::Fault::known_cause, crate::specs::Fault::empty_cause, crate::specs::Fault::many_cause))]
     pub(crate) fn user_line(&mut self, alloc: Global, text: &[u8]) -> Result<(), LineFault>
         ensures { Reads (head_cause (seen_in (read self.old)) Head.User (words_of text.now)) (taken (read self.old) Head.User (words_of text.now)) result (read self.new) }
     {
@@ -123,7 +123,7 @@ impl Draft {
     }
 
     // The line `end`, behind its first word.
-    #[tactic(auto, unfolding(crate::specs::Fault::head_cause, crate::specs::Fault::is_outside, crate::specs::Fault::is_no_end, crate::specs::Fault::is_late_code, crate::specs::Fault::operands_cause, crate::specs::Fault::known_cause, crate::specs::Fault::empty_cause, crate::specs::Fault::many_cause, crate::specs::Fault::not_built_cause, crate::specs::Values::none_left))]
+    #[tactic(auto, unfolding(crate::specs::Fault::head_cause, crate::specs::Fault::is_outside, crate::specs::Fault::is_no_end, crate::specs::Fault::is_late_code, crate::specs::Fault::operands_cause, crate::specs::Fault::known_cause, crate::specs::Fault::empty_cause, crate::specs::Fault::many_cause, crate::specs::Values::none_left))]
     pub(crate) fn end_line(&mut self, text: &[u8]) -> Result<(), LineFault>
         ensures { Reads (head_cause (seen_in (read self.old)) Head.End (words_of text.now)) (taken (read self.old) Head.End (words_of text.now)) result (read self.new) }
     {
@@ -144,7 +144,7 @@ impl Draft {
     }
 
     // The line `phase`, behind its first word.
-    #[tactic(auto, unfolding(crate::specs::Fault::head_cause, crate::specs::Fault::is_outside, crate::specs::Fault::is_no_end, crate::specs::Fault::is_late_code, crate::specs::Fault::operands_cause, crate::specs::Fault::known_cause, crate::specs::Fault::empty_cause, crate::specs::Fault::many_cause, crate::specs::Fault::not_built_cause, crate::specs::Values::none_left))]
+    #[tactic(auto, unfolding(crate::specs::Fault::head_cause, crate::specs::Fault::is_outside, crate::specs::Fault::is_no_end, crate::specs::Fault::is_late_code, crate::specs::Fault::operands_cause, crate::specs::Fault::known_cause, crate::specs::Fault::empty_cause, crate::specs::Fault::many_cause, crate::specs::Values::none_left))]
     pub(crate) fn phase_line(&mut self, alloc: Global, text: &[u8]) -> Result<(), LineFault>
         ensures { Reads (head_cause (seen_in (read self.old)) Head.Phase (words_of text.now)) (taken (read self.old) Head.Phase (words_of text.now)) result (read self.new) }
     {
@@ -186,9 +186,6 @@ impl Draft {
             Ok(r) => {
                 if self.open.count() >= limit {
                     return Err(LineFault::Cause(Cause::TooManyLines));
-                }
-                if !verb.is_built() {
-                    return Err(LineFault::Cause(Cause::NotBuilt));
                 }
                 self.open.add(r)?;
                 Ok(())

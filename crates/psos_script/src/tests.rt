@@ -70,7 +70,7 @@ fn put_answer(
 
 #[test]
 fn first_faults(rt: HostRuntime) -> Result<(), Fail> {
-    let table: [(&[u8], &[u8]); 52] = [
+    let table: [(&[u8], &[u8]); 53] = [
         (b"user alice\r\n", b"line 1: bad byte"),
         (b"#\xc8\nuser alice\n", b"line 1: bad byte"),
         (b"mint r4\n", b"line 1: outside"),
@@ -93,7 +93,8 @@ fn first_faults(rt: HostRuntime) -> Result<(), Fail> {
             b"line 9: too many users",
         ),
         (b"code a\nuser b\n", b"line 2: no end"),
-        (b"code a\ncall r4\nend\n", b"line 2: not built"),
+        (b"code a\ncall r4\nend\n", b"line 4: no user"),
+        (b"code a\ncall r4\nend\nuser b", b"a script"),
         (b"user alice\nmkseg r4 r2 a 1 8\n", b"line 2: guard wrong"),
         (b"user a_very_long_name_x\n", b"line 1: name wrong"),
         (b"", b"line 1: no user"),
@@ -122,7 +123,7 @@ fn first_faults(rt: HostRuntime) -> Result<(), Fail> {
             b"code a\nmkcode r4 r2 c b r0\nend\ncode b\n",
             b"line 2: unknown label",
         ),
-        (b"code a\nmkcode r4 r2 c a r0\n", b"line 2: not built"),
+        (b"code a\nmkcode r4 r2 c a r0\n", b"line 3: no end"),
         (b"user a\nmkcode r4 r2 c A r0", b"line 2: label wrong"),
         (
             b"user a\nmkcode r4 r2 c zip r0 x",
@@ -131,13 +132,13 @@ fn first_faults(rt: HostRuntime) -> Result<(), Fail> {
         (b"code a\nend x\n", b"line 2: too many words"),
         (b"user a b", b"line 1: too many words"),
         (b"user a\nphase x", b"line 2: too many words"),
-        (b"user a\nlist r2", b"line 2: not built"),
+        (b"user a\nlist r2", b"a script"),
         (
             b"user a\nwrite r3 0 r2\nwindow r4 r3 0 1\nunbind r2 x",
-            b"line 4: not built",
+            b"a script",
         ),
-        (b"user a\nmkobj r4 r5 r2 x 3", b"line 2: not built"),
-        (b"user a\nfind r4 0-_z", b"line 2: not built"),
+        (b"user a\nmkobj r4 r5 r2 x 3", b"a script"),
+        (b"user a\nfind r4 0-_z", b"a script"),
         (b"user a\nmint r4\x7f", b"line 2: bad byte"),
         (b"user a\nmint r4\t", b"line 2: bad byte"),
         (b"user a\n", b"a script"),

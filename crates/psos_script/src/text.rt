@@ -30,7 +30,6 @@ pub fn put_cause(_alloc: Global, out: &mut Vec<u8>, cause: Cause) -> Result<(), 
         Cause::TooManyCodes => out.extend_from_slice(b"too many codes"),
         Cause::TooManyLines => out.extend_from_slice(b"too many lines"),
         Cause::NoUser => out.extend_from_slice(b"no user"),
-        Cause::NotBuilt => out.extend_from_slice(b"not built"),
     }
 }
 
