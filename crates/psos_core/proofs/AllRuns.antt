@@ -1,33 +1,82 @@
--- Every order of users: the replay stands for the run, and answers as it does.
-use Rattle.std.proofs.Common.{◌≡◌, ℕ, ◌+◌, ◌*◌, ◌^◌, ◌≤◌, List, [], ◌∷◌, length, map, refl, ap, ◌∙◌, arith}
-use Rattle.psos_calls.specs.Script.{Script}
+-- Every order of users: the replay stands for the run, answers as it does, and makes few calls.
+use Rattle.std.proofs.Common.{◌≡◌, ℕ, ◌+◌, ◌*◌, ◌^◌, ◌≤◌, List, [], ◌∷◌, length, map, Option, Some, None, refl, sym, ap, ◌∙◌, arith}
+use Rattle.std.specs.Prelude.{slice_get}
+use Rattle.std.proofs.lemmas.List.Sums.{sum_by-cons}
+use Rattle.psos_calls.specs.declared.entry.Entry.{Entry}
+use Rattle.psos_calls.specs.declared.request.Request.{Request}
+use Rattle.psos_calls.specs.declared.reply.Reply.TheVariants.{Fine}
+use Rattle.psos_calls.specs.Script.{Script, IsWellFormed}
+use Rattle.psos_calls.specs.User.{User, next_request}
+use Rattle.psos_calls.specs.Tests.{if_there}
 use Rattle.psos_model.specs.Flat.{Flat}
 use Rattle.psos_model.specs.Answer.{Answered, answer}
-use Rattle.psos_model.specs.Run.{answers_from, IsLegalFrom}
-use Rattle.psos_model.specs.Replay.{System, replay_step, entries_from, answered_of}
+use Rattle.psos_model.specs.Run.{IsLegalFrom}
+use Rattle.psos_model.specs.Replay.{System, replay_step, replay_to, entries_from, answered_of}
+use Rattle.psos_model.specs.Output.{calls_of}
 use Rattle.psos_model.specs.Sound.{IsSound}
-use Rattle.psos_model.specs.Spelling.{IsBuilt}
 use Rattle.psos_model.specs.StandsFor.{StandsFor}
 use Rattle.psos_model.proofs.AboveAnswers.{at_most_two}
 use Rattle.psos_laws.proofs.SharedSound.{answers_kept}
 use Rattle.psos_laws.proofs.OrdersEnd.{orders_end}
 use Rattle.psos_agree.proofs.Stepping.{step_agrees}
+use Rattle.psos_agree.proofs.Lengths.{plans_are_short}
 use Rattle.psos_core.specs.Serving.{Starts, RunStands}
-use Rattle.psos_core.proofs.BuiltScripts.{asks_built}
+
+-- ---- one request
+
+-- an entry of few calls
+abbrev pub IsFew : Entry → Type 0
+IsFew e = length e.steps ≤ 44
+
+-- where a user's own part is sound, its next request makes few calls
+step_few : (s : Script) (y : System) (f : Flat) (u : ℕ) → StandsFor y f → IsSound s f → IsFew (replay_step s y u).1
+step_few s y f u h sound = by_user (slice_get y.users u) refl
+  where
+    none : IsFew (record { user = u; n = 0; m = 0; steps = []; reply = Fine })
+    none = omega arith
+
+    by_request : (x : User) → length x.path ≤ 4 → (o : Option Request) → next_request s x ≡ o → IsFew (replay_to s y u x o).1
+    by_request x path None asks = none
+    by_request x path (Some request) asks = plans_are_short x y.levels request path
+
+    by_user : (o : Option User) → slice_get y.users u ≡ o
+        → IsFew (if_there o (y, record { user = u; n = 0; m = 0; steps = []; reply = Fine }) (λ x. replay_to s y u x (next_request s x))).1
+    by_user None here = none
+    by_user (Some x) here =
+        let there : slice_get f.users u ≡ Some x = ap (λ (xs : List User). slice_get xs u) (sym h.users) ∙ here in
+        by_request x (sound.users u x there).path (next_request s x) refl
+
+-- ---- all of them
+
+-- what holds after an order
+record Follows (s : Script) (y : System) (f : Flat) (order : List ℕ) : Type 0 where
+  stands : RunStands s y f order
+  calls : calls_of (entries_from s y order) ≤ 44 * length order
 
 -- from levels that stand for a sound flat state with identifiers for so many requests
-stand_from : (s : Script) → IsBuilt s → (order : List ℕ) (y : System) (f : Flat) → StandsFor y f → IsSound s f → f.next + 2 * length order + 1 ≤ 2 ^ 64 → RunStands s y f order
-stand_from s built [] y f h sound room = record { stands = h; answered = refl }
-stand_from s built (u ∷ us) y f h sound room =
-    let one = step_agrees s y f u built.well_formed (λ x r here asks. asks_built s built x r asks) h sound (omega (arith, room)) in
-    let rest = stand_from s built us (replay_step s y u).0 (answer s f u).0 one.stands (answers_kept s f u built.well_formed sound) (omega (arith, room, at_most_two s f u)) in
+follows : (s : Script) → IsWellFormed s → (order : List ℕ) (y : System) (f : Flat) → StandsFor y f → IsSound s f → f.next + 2 * length order + 1 ≤ 2 ^ 64 → Follows s y f order
+follows s well [] y f h sound room = record { stands = record { stands = h; answered = refl }; calls = omega arith }
+follows s well (u ∷ us) y f h sound room =
+    let one = step_agrees s y f u well h sound (omega (arith, room)) in
+    let rest = follows s well us (replay_step s y u).0 (answer s f u).0 one.stands (answers_kept s f u well sound) (omega (arith, room, at_most_two s f u)) in
+    let entry = (replay_step s y u).1 in
+    let others = entries_from s (replay_step s y u).0 us in
     record {
-      stands = rest.stands;
-      answered = ap (λ (a : Answered). a ∷ map answered_of (entries_from s (replay_step s y u).0 us)) one.answered
-          ∙ ap (λ (others : List Answered). (answer s f u).1 ∷ others) rest.answered;
+      stands = record {
+        stands = rest.stands.stands;
+        answered = ap (λ (a : Answered). a ∷ map answered_of others) one.answered
+            ∙ ap (λ (others : List Answered). (answer s f u).1 ∷ others) rest.stands.answered;
+      };
+      calls = omega (arith, rest.calls, step_few s y f u h sound, sum_by-cons (λ (e : Entry). length e.steps) entry others);
     }
+
+after_order : (s : Script) (y : System) (f : Flat) (order : List ℕ) → Starts s y f → IsLegalFrom s f order → Follows s y f order
+after_order s y f order start legal =
+    follows s start.well_formed order y f start.stands start.start.sound (omega (arith, start.start.next, orders_end s f order start.well_formed start.start legal))
 
 -- every legal order from a start
 pub runs_stand : (s : Script) (y : System) (f : Flat) (order : List ℕ) → Starts s y f → IsLegalFrom s f order → RunStands s y f order
-runs_stand s y f order start legal =
-    stand_from s start.built order y f start.stands start.start.sound (omega (arith, start.start.next, orders_end s f order start.built.well_formed start.start legal))
+runs_stand s y f order start legal = (after_order s y f order start legal).stands
+
+pub runs_few : (s : Script) (y : System) (f : Flat) (order : List ℕ) → Starts s y f → IsLegalFrom s f order → calls_of (entries_from s y order) ≤ 44 * length order
+runs_few s y f order start legal = (after_order s y f order start legal).calls

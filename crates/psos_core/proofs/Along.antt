@@ -1,282 +1,212 @@
--- A serial run on its way: from a start, request by request, user by user and phase by phase, to the end.
-use Rattle.std.proofs.Common.{◌≡◌, ◌≢◌, ℕ, zero, suc, ◌+◌, ◌^◌, ◌<◌, ◌≤◌, true, false, List, [], ◌∷◌, ◌++◌, length, replicate, Option, Some, None, refl, sym, ap, ◌∙◌, subst, arith, inl, inr, ◌⊎◌, append-nil, length-append, length-set}
-use Rattle.std.specs.Prelude.{slice_get, slice_set}
-use Rattle.std.proofs.lemmas.Option.{slice_get_within}
-use Rattle.std.proofs.lemmas.List.Sums.{sum_by_push}
+-- A serial run on its way: from a start, request by request, to the end.
+use Rattle.std.proofs.Common.{◌≡◌, ℕ, ◌+◌, ◌*◌, ◌^◌, ◌≤◌, List, [], ◌∷◌, ◌++◌, length, map, Some, None, refl, sym, ap, ◌∙◌, subst, arith}
+use Rattle.std.specs.Prelude.{slice_get}
+use Rattle.std.proofs.lemmas.List.{length-append}
+use Rattle.std.proofs.lemmas.Option.{same_Some}
 use Rattle.psos_calls.specs.declared.request.Request.{Request}
 use Rattle.psos_calls.specs.declared.entry.Entry.{Entry}
-use Rattle.psos_calls.specs.declared.frame.Frame.{Frame}
 use Rattle.psos_calls.specs.Script.{Script, requests_of, user_script}
-use Rattle.psos_calls.specs.User.{User, next_in, next_request, after, CanCount}
-use Rattle.psos_calls.specs.Plan.{run_plan}
-use Rattle.psos_calls.specs.PlanOf.{plan_of}
-use Rattle.psos_calls.specs.Tests.{if_there}
+use Rattle.psos_calls.specs.User.{User}
 use Rattle.psos_model.specs.Flat.{Flat}
-use Rattle.psos_model.specs.Answer.{Answered, answer}
+use Rattle.psos_model.specs.Answer.{answer}
 use Rattle.psos_model.specs.Boot.{boot}
-use Rattle.psos_model.specs.Run.{has_left, is_left, run_from, answers_from, IsLegalFrom}
+use Rattle.psos_model.specs.Run.{has_left, phase_of, run_from, IsLegalFrom}
 use Rattle.psos_model.specs.Replay.{System, boot_system, replay_step, replay_from, entries_from, order_of, answered_of}
+use Rattle.psos_model.specs.Output.{calls_of}
 use Rattle.psos_model.specs.Sound.{IsSound}
 use Rattle.psos_model.specs.StandsFor.{StandsFor}
-use Rattle.psos_model.specs.Spelling.{IsBuilt}
+use Rattle.psos_model.specs.SerialOrder.{IsFirst, IsSerialFrom}
 use Rattle.psos_model.proofs.AboveAnswers.{at_most_two}
-use Rattle.psos_laws.proofs.SharedSound.{answers_kept}
-use Rattle.psos_agree.proofs.Stepping.{step_agrees}
-use Rattle.psos_core.specs.Order.{asked_in, users_front, phases_front, phases_most}
+use Rattle.psos_model.proofs.Asked.{can_count}
+use Rattle.psos_laws.proofs.SharedSound.{runs_kept}
+use Rattle.psos_laws.proofs.UsersStep.{can_step}
+use Rattle.psos_laws.proofs.OrdersEnd.{orders_end}
+use Rattle.psos_laws.proofs.OrdersRun.{AreGoing, turn, turn_going, start_going}
+use Rattle.psos_core.specs.UnderWay.{phases_most, asked_before, due, IsPast, IsAt, HasServed}
 use Rattle.psos_core.specs.Serving.{Starts, Asks, IsServed, IsRunFrom, IsWholeRun}
-use Rattle.psos_core.specs.Progress.{before, answered_at, IsUserAt, HasServed}
-use Rattle.psos_core.proofs.Lists.{slice_get-set_same, slice_get-set_other, there_is}
-use Rattle.psos_core.proofs.Phases.{before_few, request_at}
-use Rattle.psos_core.proofs.Requests.{plan_few, effect_plain, after_rests, step_is}
-use Rattle.psos_core.proofs.Orders.{replay_from-more, entries_from-more, run_from-more, answers_from-more, legal_more, order_of-more, answered-more}
-use Rattle.psos_core.proofs.BuiltScripts.{asks_built, asked_built, asked_few, phases_bound, phases_of_user}
-use Rattle.psos_core.proofs.Left.{left_here, none_left}
-use Rattle.psos_core.proofs.Counted.{count_start, count_here, count_apart, count_next, count_phase, asked_short, order_more, order_next, order_phase}
+use Rattle.psos_core.proofs.Requests.{step_is}
+use Rattle.psos_core.proofs.Orders.{replay_from-more, entries_from-more, run_from-more, serial_more, serial_legal, order_of-more, order_length}
+use Rattle.psos_core.proofs.AllRuns.{runs_stand, runs_few}
+use Rattle.psos_core.proofs.Phases.{asked_all}
+use Rattle.psos_core.proofs.Standing.{due_some, due_none, due_phase, past_phase, goes_within, is_first, nobody_left, at_first, at_more, at_user, at_phase}
 
-suc_is : (n : ℕ) → suc n ≡ n + 1
-suc_is n = omega arith
-
--- ---- the start
-
-pub at_start : (s : Script) (y : System) (f : Flat) (now : System) → Starts s y f → now ≡ y → HasServed s y f now [] 0 0 0
-at_start s y f now h e =
-    let P : System → Type 0 = λ n. HasServed s y f n [] 0 0 0 in
-    let same : length y.users ≡ length s.users = ap (λ (xs : List User). length xs) h.stands.users ∙ h.start.sound.all_users in
-    let begun : HasServed s y f y [] 0 0 0 = record {
-      replayed = refl;
-      recorded = refl;
-      answered = refl;
-      legal = tt;
-      serial = refl;
-      stands = h.stands;
-      sound = h.start.sound;
-      users = same;
-      each = λ v lt.
-          let found = there_is y.users v (omega (arith, same, lt)) in
-          let flat : slice_get f.users v ≡ Some found.0 = ap (λ (xs : List User). slice_get xs v) (sym h.stands.users) ∙ found.1 in
-          let fresh = h.start.users v found.0 flat in
-          record {
-            user = found.0;
-            there = found.1;
-            number = (h.start.sound.users v found.0 flat).number;
-            closed = fresh.frames;
-            counted = fresh.answered ∙ sym (count_start s 0 v);
-          };
-      low = omega arith;
-      few = omega arith;
-      calls = omega arith;
-    } in
-    subst P (sym e) begun
-
--- ---- what is asked next
-
-next_is : (s : Script) (x : User) (u k : ℕ) → x.number ≡ u → x.frames ≡ [] → x.answered ≡ k → next_request s x ≡ slice_get (requests_of (user_script s u)) k
-next_is s x u k number closed counted =
-    ap (λ (fs : List Frame). next_in s x fs) closed
-    ∙ ap (λ (n : ℕ). slice_get (requests_of (user_script s n)) x.answered) number
-    ∙ ap (λ (n : ℕ). slice_get (requests_of (user_script s u)) n) counted
-
--- identifiers are left at every request of a serial run
-room_left : (s : Script) (y : System) (f : Flat) (now : System) (entries : List Entry) (p u i : ℕ) → Starts s y f → u < length s.users → p < phases_most s.users
-    → i < length (asked_in s p u) → HasServed s y f now entries p u i → (run_from s f (order_of entries)).next + 3 ≤ 2 ^ 64
-room_left s y f now entries p u i h lt phase within k =
-    omega (arith, k.low, k.few, h.start.next, phases_bound s h.built, phase, lt, h.built.well_formed.few_users, within, before_few (user_script s u).phases p, asked_few s u h.built lt)
-
-pub asks_next : (s : Script) (y : System) (f : Flat) (now : System) (entries : List Entry) (p u i : ℕ) (request : Request) → Starts s y f → u < length s.users → p < phases_most s.users
-    → slice_get (asked_in s p u) i ≡ Some request → HasServed s y f now entries p u i → Asks s now u request
-asks_next s y f now entries p u i request start lt phase at h =
-    let is = h.each u lt in
-    let within : i < length (asked_in s p u) = slice_get_within (asked_in s p u) i request at in
-    let k = before (user_script s u).phases p + i in
-    let counted : is.user.answered ≡ k = is.counted ∙ count_here s p u i in
-    let few : is.user.answered + 1 < 2 ^ 16 = omega (arith, counted, within, before_few (user_script s u).phases p, asked_few s u start.built lt) in
-    let C : List Frame → Type 0 = λ fs. CanCount is.user fs in
-    record {
-      user = is.user;
-      flat = run_from s f (order_of entries);
-      here = is.there;
-      next = next_is s is.user u k is.number is.closed counted ∙ request_at (user_script s u).phases p i k within refl ∙ at;
-      built = asked_built s p u i request start.built at;
-      well_formed = start.built.well_formed;
-      stands = h.stands;
-      sound = h.sound;
-      room = room_left s y f now entries p u i start lt phase within h;
-      count = subst C (sym is.closed) few;
-    }
-
--- ---- one request more
-
--- the users after it
-each_more : (s : Script) (users : List User) (p u i : ℕ) (left : User) → u < length s.users → length users ≡ length s.users
-    → left.number ≡ u → left.frames ≡ [] → left.answered ≡ answered_at s p u i u + 1
-    → ((v : ℕ) → v < length s.users → IsUserAt s users p u i v) → (v : ℕ) → v < length s.users → IsUserAt s (slice_set users u left) p u (i + 1) v
-each_more s users p u i left lt same number closed counted each v within = by_place (place v u)
+-- after a legal order all users are on their way
+going_after : (s : Script) (y : System) (f : Flat) (order : List ℕ) → Starts s y f → IsLegalFrom s f order → AreGoing s (run_from s f order).users
+going_after s y f order start legal = by_order order f (start_going s f start.start) legal
   where
-    place : (a b : ℕ) → (a ≡ b) ⊎ (a ≢ b)
-    place zero zero = inl refl
-    place zero (suc b) = inr (λ e. absurd (omega (arith, e)))
-    place (suc a) zero = inr (λ e. absurd (omega (arith, e)))
-    place (suc a) (suc b) = lift (place a b)
-      where
-        lift : (a ≡ b) ⊎ (a ≢ b) → (suc a ≡ suc b) ⊎ (suc a ≢ suc b)
-        lift (inl e) = inl (ap (λ (n : ℕ). suc n) e)
-        lift (inr n) = inr (λ e. n (omega (arith, e)))
+    by_order : (order : List ℕ) (f : Flat) → AreGoing s f.users → IsLegalFrom s f order → AreGoing s (run_from s f order).users
+    by_order [] f h legal = h
+    by_order (u ∷ us) f h legal = by_order us (answer s f u).0 (turn_going s f u h (turn s start.well_formed f u h legal.0)) legal.1
 
-    by_place : (v ≡ u) ⊎ (v ≢ u) → IsUserAt s (slice_set users u left) p u (i + 1) v
-    by_place (inl e) = record {
-      user = left;
-      there = ap (λ (n : ℕ). slice_get (slice_set users u left) n) e ∙ slice_get-set_same users u left (omega (arith, same, lt));
-      number = number ∙ sym e;
-      closed = closed;
-      counted = counted ∙ ap (λ (n : ℕ). n + 1) (count_here s p u i) ∙ omega arith ∙ sym (count_here s p u (i + 1)) ∙ ap (λ (n : ℕ). answered_at s p u (i + 1) n) (sym e);
-    }
-    by_place (inr ne) =
-        let is = each v within in
+-- an order uses two identifiers a request at most
+next_after : (s : Script) (order : List ℕ) (f : Flat) → (run_from s f order).next ≤ f.next + 2 * length order
+next_after s [] f = omega arith
+next_after s (u ∷ us) f = omega (arith, next_after s us (answer s f u).0, at_most_two s f u)
+
+-- what holds wherever a serial run has come
+module _ (s : Script) (y : System) (f : Flat) (start : Starts s y f) (now : System) (entries : List Entry) (p u : ℕ) (h : HasServed s y f now entries p u) where
+  abbrev order : List ℕ
+  order = order_of entries
+
+  abbrev flat : Flat
+  flat = run_from s f order
+
+  legal : IsLegalFrom s f order
+  legal = serial_legal s order f h.serial
+
+  stands : StandsFor now flat
+  stands = subst (λ (z : System). StandsFor z flat) (sym h.replayed) (runs_stand s y f order start legal).stands
+
+  sound : IsSound s flat
+  sound = runs_kept s f order start.well_formed start.start.sound
+
+  going : AreGoing s flat.users
+  going = going_after s y f order start legal
+
+  -- there are few requests
+  pub few : length entries ≤ 32768
+  few = omega (arith, orders_end s f order start.well_formed start.start legal, order_length entries)
+
+  -- identifiers are left
+  room : flat.next + 3 ≤ 2 ^ 64
+  room = omega (arith, next_after s order f, start.start.next, few, order_length entries)
+
+  -- all users are there
+  pub all_users : length now.users ≡ length s.users
+  all_users = ap (λ (xs : List User). length xs) stands.users ∙ going.all
+
+  place : IsAt s flat.users p u
+  place = subst (λ (xs : List User). IsAt s xs p u) stands.users h.place
+
+  -- ---- a request that is due
+  module _ (x : User) (request : Request) (there : slice_get now.users u ≡ Some x) (is : due s x (asked_before (user_script s u).phases (p + 1)) ≡ Some request) where
+    here : slice_get flat.users u ≡ Some x
+    here = ap (λ (xs : List User). slice_get xs u) (sym stands.users) ∙ there
+
+    abbrev count : ℕ
+    count = asked_before (user_script s u).phases (p + 1)
+
+    number : x.number ≡ u
+    number = (going.each u x here).number
+
+    phase : phase_of s x ≡ Some p
+    phase = due_phase s p u x number (h.place.here x there) (due_some s x count request is).test
+
+    first : IsFirst s flat.users u
+    first = is_first s flat.users p u x place here phase
+
+    -- it can be served
+    pub asks : Asks s now u request
+    asks =
+        let next = (due_some s x count request is).next in
+        let can = can_step s flat u start.well_formed sound (omega (arith, room)) first.left in
         record {
-          user = is.user;
-          there = slice_get-set_other users u v left ne ∙ is.there;
-          number = is.number;
-          closed = is.closed;
-          counted = is.counted ∙ count_apart s p u i v ne;
+          user = x;
+          flat = flat;
+          here = there;
+          next = next;
+          well_formed = start.well_formed;
+          stands = stands;
+          sound = sound;
+          room = room;
+          count = can_count s start.well_formed x (can.counts x here) request next;
         }
 
-pub one_more : (s : Script) (y : System) (f : Flat) (old new : System) (entries : List Entry) (entry : Entry) (p u i : ℕ) (request : Request) → Starts s y f → u < length s.users → p < phases_most s.users
-    → slice_get (asked_in s p u) i ≡ Some request → IsServed s old u new entry → HasServed s y f old entries p u i → HasServed s y f new (entries ++ entry ∷ []) p u (i + 1)
-one_more s y f old new entries entry p u i request start lt phase at served h =
-    let built = start.built in
-    let is = h.each u lt in
-    let x = is.user in
-    let within : i < length (asked_in s p u) = slice_get_within (asked_in s p u) i request at in
-    let k = before (user_script s u).phases p + i in
-    let next : next_request s x ≡ Some request = next_is s x u k is.number is.closed (is.counted ∙ count_here s p u i) ∙ request_at (user_script s u).phases p i k within refl ∙ at in
-    let step = step_is s old u x request is.there next in
-    let can = asked_built s p u i request built at in
-    let order = order_of entries in
-    let flat = run_from s f order in
-    let agree = step_agrees s old flat u built.well_formed (λ z r here asks. asks_built s built z r asks) h.stands h.sound (room_left s y f old entries p u i start lt phase within h) in
-    let ran = run_plan (plan_of x request) old.levels in
-    let here : slice_get flat.users u ≡ Some x = ap (λ (xs : List User). slice_get xs u) (sym h.stands.users) ∙ is.there in
-    let plain = effect_plain s old flat u x request can built.well_formed h.stands h.sound (room_left s y f old entries p u i start lt phase within h) here next in
-    let rests = after_rests s x ran.effect plain is.closed in
-    let order-is : order_of (entries ++ entry ∷ []) ≡ order ++ u ∷ [] =
-    order_of-more entries entry ∙ ap (λ (e : Entry). order ++ e.user ∷ []) served.entry-is ∙ ap (λ (r : System × Entry). order ++ r.1.user ∷ []) step in
-    let left : has_left s flat.users u ≡ true = ap (λ (us : List User). has_left s us u) (sym h.stands.users) ∙ left_here s old.users p u i lt h.users h.each within in
-    let users-is : new.users ≡ slice_set old.users u (after s x ran.effect) = ap (λ (z : System). z.users) served.system-is ∙ ap (λ (r : System × Entry). r.0.users) step in
-    let L : List ℕ → Type 0 = λ o. IsLegalFrom s f o in
-    let E : List User → Type 0 = λ us. (v : ℕ) → v < length s.users → IsUserAt s us p u (i + 1) v in
-    let run-is : run_from s f (order_of (entries ++ entry ∷ [])) ≡ (answer s flat u).0 = ap (λ (o : List ℕ). run_from s f o) order-is ∙ run_from-more s order f u in
-    let S : System → Type 0 = λ z. StandsFor z (run_from s f (order_of (entries ++ entry ∷ []))) in
-    let F : Flat → Type 0 = λ g. StandsFor (replay_step s old u).0 g in
-    let K : Flat → Type 0 = λ g. IsSound s g in
-    let grown : length (entries ++ entry ∷ []) ≡ length entries + 1 = length-append entries (entry ∷ []) in
-    let low = h.low in
-    let few = h.few in
-    let calls = h.calls in
-    let more-few : length ran.calls ≤ 44 = plan_few x old.levels request can in
-    let steps-are : length entry.steps ≡ length ran.calls = ap (λ (e : Entry). length e.steps) served.entry-is ∙ ap (λ (r : System × Entry). length r.1.steps) step in
-    record {
-      replayed = served.system-is ∙ ap (λ (z : System). (replay_step s z u).0) h.replayed
-          ∙ sym (replay_from-more s order y u) ∙ ap (λ (o : List ℕ). replay_from s y o) (sym order-is);
-      recorded = ap (λ (e : Entry). entries ++ e ∷ []) served.entry-is ∙ ap (λ (z : System). entries ++ (replay_step s z u).1 ∷ []) h.replayed
-          ∙ ap (λ (es : List Entry). es ++ (replay_step s (replay_from s y order) u).1 ∷ []) h.recorded
-          ∙ sym (entries_from-more s order y u) ∙ ap (λ (o : List ℕ). entries_from s y o) (sym order-is);
-      answered = answered-more entries entry ∙ ap (λ (all : List Answered). all ++ answered_of entry ∷ []) h.answered
-          ∙ ap (λ (e : Entry). answers_from s f order ++ answered_of e ∷ []) served.entry-is
-          ∙ ap (λ (a : Answered). answers_from s f order ++ a ∷ []) agree.answered
-          ∙ sym (answers_from-more s order f u) ∙ ap (λ (o : List ℕ). answers_from s f o) (sym order-is);
-      legal = subst L (sym order-is) (legal_more s order f u h.legal left);
-      serial = order-is ∙ ap (λ (o : List ℕ). o ++ u ∷ []) h.serial ∙ order_more s p u i ∙ ap (λ (n : ℕ). phases_front s p ++ users_front s p u ++ replicate n u) (suc_is i);
-      stands = subst S (sym served.system-is) (subst F (sym run-is) agree.stands);
-      sound = subst K (sym run-is) (answers_kept s flat u built.well_formed h.sound);
-      users = ap (λ (us : List User). length us) users-is ∙ length-set old.users u (after s x ran.effect) ∙ h.users;
-      each = subst E (sym users-is) (each_more s old.users p u i (after s x ran.effect) lt h.users (rests.number ∙ is.number) rests.closed (rests.counted ∙ ap (λ (n : ℕ). n + 1) is.counted) h.each);
-      low = omega (arith, low, at_most_two s flat u, ap (λ (g : Flat). g.next) run-is, grown);
-      few = omega (arith, few, grown);
-      calls = omega (arith, calls, grown, more-few, steps-are, sum_by_push (λ (e : Entry). length e.steps) entries entry);
-    }
+    -- and then the run has come one request further
+    module _ (new : System) (entry : Entry) (served : IsServed s now u new entry) where
+      order-is : order_of (entries ++ entry ∷ []) ≡ order ++ u ∷ []
+      order-is =
+          let step = step_is s now u x request there (due_some s x count request is).next in
+          order_of-more entries entry ∙ ap (λ (e : Entry). order ++ e.user ∷ []) served.entry-is ∙ ap (λ (r : System × Entry). order ++ r.1.user ∷ []) step
 
--- ---- the next user, and the next phase
+      serial-is : IsSerialFrom s f (order_of (entries ++ entry ∷ []))
+      serial-is = subst (IsSerialFrom s f) (sym order-is) (serial_more s order f u h.serial first)
 
-pub next_user : (s : Script) (y : System) (f : Flat) (now : System) (entries : List Entry) (p u i : ℕ) → IsBuilt s → u < length s.users → i ≡ length (asked_in s p u)
-    → HasServed s y f now entries p u i → HasServed s y f now entries p (u + 1) 0
-next_user s y f now entries p u i built lt all h =
-    let P : ℕ → Type 0 = λ n. HasServed s y f now entries p u n in
-    let k = subst P all h in
-    let few = k.few in
-    record {
-      replayed = k.replayed;
-      recorded = k.recorded;
-      answered = k.answered;
-      legal = k.legal;
-      serial = k.serial ∙ order_next s p u ∙ ap (λ (n : ℕ). phases_front s p ++ users_front s p n ++ []) (suc_is u);
-      stands = k.stands;
-      sound = k.sound;
-      users = k.users;
-      each = λ v within. let is = k.each v within in
-          record { user = is.user; there = is.there; number = is.number; closed = is.closed; counted = is.counted ∙ count_next s p u v };
-      low = k.low;
-      few = omega (arith, few, asked_short (user_script s u).phases p, asked_few s u built lt);
-      calls = k.calls;
-    }
+      replayed-is : new ≡ replay_from s y (order_of (entries ++ entry ∷ []))
+      replayed-is =
+          served.system-is ∙ ap (λ (z : System). (replay_step s z u).0) h.replayed
+          ∙ sym (replay_from-more s order y u) ∙ ap (replay_from s y) (sym order-is)
 
-pub next_phase : (s : Script) (y : System) (f : Flat) (now : System) (entries : List Entry) (p u : ℕ) → IsBuilt s → u ≡ length s.users
-    → HasServed s y f now entries p u 0 → HasServed s y f now entries (p + 1) 0 0
-next_phase s y f now entries p u built all h =
-    let P : ℕ → Type 0 = λ n. HasServed s y f now entries p n 0 in
-    let k = subst P all h in
-    let few = k.few in
-    let users = built.well_formed.few_users in
-    record {
-      replayed = k.replayed;
-      recorded = k.recorded;
-      answered = k.answered;
-      legal = k.legal;
-      serial = k.serial ∙ order_phase s p (length s.users) ∙ ap (λ (n : ℕ). phases_front s n ++ [] ++ []) (suc_is p);
-      stands = k.stands;
-      sound = k.sound;
-      users = k.users;
-      each = λ v within. let is = k.each v within in
-          record { user = is.user; there = is.there; number = is.number; closed = is.closed; counted = is.counted ∙ count_phase s p (length s.users) v within };
-      low = k.low;
-      few = omega (arith, few, users);
-      calls = k.calls;
-    }
+      users-are : (run_from s f (order_of (entries ++ entry ∷ []))).users ≡ new.users
+      users-are =
+          let after = (runs_stand s y f (order_of (entries ++ entry ∷ [])) start (serial_legal s (order_of (entries ++ entry ∷ [])) f serial-is)).stands in
+          sym (ap (λ (z : System). z.users) replayed-is ∙ after.users)
 
--- ---- the end
+      place-is : IsAt s new.users p u
+      place-is =
+          let t = turn s start.well_formed flat u going first.left in
+          let same : (answer s flat u).0.users ≡ new.users = ap (λ (g : Flat). g.users) (sym (run_from-more s order f u) ∙ ap (run_from s f) (sym order-is)) ∙ users-are in
+          let mine : phase_of s t.x ≡ Some p = ap (phase_of s) (same_Some t.x x (sym t.there ∙ here)) ∙ phase in
+          subst (λ (xs : List User). IsAt s xs p u) (sym t.users ∙ same)
+          (at_more s flat.users p u t.x t.y t.there place (goes_within s p u t.x t.y (going.each u t.x t.there).number t.on mine))
 
--- there is no such user
-nobody : (users : List User) (u : ℕ) → length users ≤ u → slice_get users u ≡ None
-nobody [] u h = refl
-nobody (x ∷ xs) zero h = absurd (omega arith)
-nobody (x ∷ xs) (suc u) h = nobody xs u (omega arith)
+      pub one_more : HasServed s y f new (entries ++ entry ∷ []) p u
+      one_more = record {
+        replayed = replayed-is;
+        recorded = ap (λ (e : Entry). entries ++ e ∷ []) served.entry-is ∙ ap (λ (z : System). entries ++ (replay_step s z u).1 ∷ []) h.replayed
+            ∙ ap (λ (es : List Entry). es ++ (replay_step s (replay_from s y order) u).1 ∷ []) h.recorded
+            ∙ sym (entries_from-more s order y u) ∙ ap (entries_from s y) (sym order-is);
+        serial = serial-is;
+        place = place-is;
+      }
 
-over_at : (s : Script) (y : System) (f : Flat) (now : System) (entries : List Entry) (p u : ℕ) → phases_most s.users ≤ p → HasServed s y f now entries p 0 0 → has_left s now.users u ≡ false
-over_at s y f now entries p u all h = by_number (within u (length s.users))
-  where
-    within : (a b : ℕ) → (a < b) ⊎ (b ≤ a)
-    within a zero = inr (omega arith)
-    within zero (suc b) = inl (omega arith)
-    within (suc a) (suc b) = lift (within a b)
-      where
-        lift : (a < b) ⊎ (b ≤ a) → (suc a < suc b) ⊎ (suc b ≤ suc a)
-        lift (inl h) = inl (omega arith)
-        lift (inr h) = inr (omega arith)
+      -- which it does at most so often
+      pub one_fewer : length entries + 1 ≤ 32768
+      one_fewer =
+          let legal = serial_legal s (order_of (entries ++ entry ∷ [])) f serial-is in
+          omega (arith, orders_end s f (order_of (entries ++ entry ∷ [])) start.well_formed start.start legal, order_length (entries ++ entry ∷ []), length-append entries (entry ∷ []))
 
-    by_number : (u < length s.users) ⊎ (length s.users ≤ u) → has_left s now.users u ≡ false
-    by_number (inl lt) = none_left s now.users p u h.users h.each (omega (arith, all, phases_of_user s u)) lt
-    by_number (inr le) = ap (λ (o : Option User). if_there o false (λ x. is_left s now.users x)) (nobody now.users u (omega (arith, h.users, le)))
+  -- ---- the next user, and the next phase
 
-pub at_end : (s : Script) (y : System) (f : Flat) (now : System) (entries : List Entry) (p : ℕ) → IsBuilt s → p ≡ phases_most s.users → HasServed s y f now entries p 0 0 → IsRunFrom s y f entries now
-at_end s y f now entries p built all h = record {
-  legal = h.legal;
-  over = λ u. ap (λ (us : List User). has_left s us u) (sym h.stands.users) ∙ over_at s y f now entries p u (omega (arith, all)) h;
-  recorded = h.recorded;
-  answered = h.answered;
-  serial = h.serial ∙ append-nil (phases_front s p ++ []) ∙ append-nil (phases_front s p) ∙ ap (λ (n : ℕ). phases_front s n) all;
-  few = omega (arith, h.calls, h.few, phases_bound s built, all);
-  replayed = h.replayed;
-  stands = h.stands;
+  -- nothing is due
+  pub next_user : (x : User) → slice_get now.users u ≡ Some x → due s x (asked_before (user_script s u).phases (p + 1)) ≡ None → HasServed s y f now entries p (u + 1)
+  next_user x there is =
+      let here : slice_get flat.users u ≡ Some x = ap (λ (xs : List User). slice_get xs u) (sym stands.users) ∙ there in
+      let on = going.each u x here in
+      let own : length (requests_of (user_script s x.number)) ≡ length (requests_of (user_script s u)) = ap (λ (n : ℕ). length (requests_of (user_script s n))) on.number in
+      let few : asked_before (user_script s u).phases (p + 1) ≤ length (requests_of (user_script s x.number)) = omega (arith, own, asked_all (user_script s u).phases (p + 1)) in
+      let past : IsPast s (p + 1) x = past_phase s (p + 1) u x on.number (due_none s x (asked_before (user_script s u).phases (p + 1)) is on.line few) in
+      record {
+        replayed = h.replayed;
+        recorded = h.recorded;
+        serial = h.serial;
+        place = at_user s now.users p u x there past h.place;
+      }
+
+  pub next_phase : u ≡ length s.users → HasServed s y f now entries (p + 1) 0
+  next_phase all = record {
+    replayed = h.replayed;
+    recorded = h.recorded;
+    serial = h.serial;
+    place = at_phase s now.users p u (all ∙ sym all_users) h.place;
+  }
+
+-- ---- the start, and the end
+
+pub at_start : (s : Script) (y : System) (f : Flat) (now : System) → Starts s y f → now ≡ y → HasServed s y f now [] 0 0
+at_start s y f now h e = record {
+  replayed = e;
+  recorded = refl;
+  serial = tt;
+  place = subst (λ (xs : List User). IsAt s xs 0 0) (sym (ap (λ (z : System). z.users) e ∙ h.stands.users)) (at_first s f.users (λ u x there. (h.start.users u x there).frames));
 }
+
+pub at_end : (s : Script) (y : System) (f : Flat) (now : System) (entries : List Entry) (p : ℕ) → Starts s y f → p ≡ phases_most s.users → HasServed s y f now entries p 0 → IsRunFrom s y f entries now
+at_end s y f now entries p start all h =
+    let order = order_of entries in
+    let legal = serial_legal s order f h.serial in
+    let ran = runs_stand s y f order start legal in
+    let stands = subst (λ (z : System). StandsFor z (run_from s f order)) (sym h.replayed) ran.stands in
+    record {
+      legal = legal;
+      over = λ u. ap (λ (us : List User). has_left s us u) (sym stands.users) ∙ nobody_left s now.users p (omega (arith, all)) h.place u;
+      recorded = h.recorded;
+      answered = ap (map answered_of) h.recorded ∙ ran.answered;
+      serial = h.serial;
+      few = omega (arith, ap calls_of h.recorded, runs_few s y f order start legal, orders_end s f order start.well_formed start.start legal);
+      replayed = h.replayed;
+      stands = stands;
+    }
 
 -- from boot
 pub whole_run : (s : Script) (now : System) (entries : List Entry) → IsRunFrom s (boot_system s) (boot s) entries now → IsWholeRun s entries now

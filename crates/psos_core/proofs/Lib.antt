@@ -1,9 +1,7 @@
-pub mod Lists
 pub mod Phases
-pub mod Counted
 pub mod Orders
-pub mod BuiltScripts
-pub mod Left
+pub mod Scripts
+pub mod Standing
 pub mod Requests
 pub mod Along
 pub mod Walked

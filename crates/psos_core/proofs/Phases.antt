@@ -1,28 +1,32 @@
 -- Requests by phases.
-use Rattle.std.proofs.Common.{◌≡◌, ℕ, zero, suc, ◌+◌, ◌-◌, ◌<◌, ◌≤◌, Bool, true, false, cond, ltb, List, [], ◌∷◌, length, Option, Some, None, refl, sym, ap, ◌∙◌, subst, arith}
-use Rattle.std.specs.Prelude.{slice_get, slice_index_or, option_map, sum_by}
-use Rattle.std.specs.List.{flat_map, AllByRecursion}
-use Rattle.std.proofs.lemmas.Bool.{lt-ltb, le-ltb}
+use Rattle.std.proofs.Common.{◌≡◌, ℕ, zero, suc, ◌+◌, ◌-◌, ◌<◌, ◌≤◌, Bool, true, false, cond, ltb, List, [], ◌∷◌, length, Option, Some, None, refl, sym, ap, ◌∙◌, ◌⊎◌, inl, inr, subst, arith}
+use Rattle.std.specs.Prelude.{option_map, sum_by}
+use Rattle.std.specs.List.{flat_map}
+use Rattle.std.proofs.lemmas.Bool.{le-ltb, ltb-false, cases_lt}
+use Rattle.std.proofs.lemmas.Option.{same_Some, none-some}
+use Rattle.std.proofs.lemmas.List.{length-append}
 use Rattle.std.proofs.lemmas.List.Sums.{sum_by-cons}
 use Rattle.psos_calls.specs.declared.request.Request.{Request}
 use Rattle.psos_model.specs.Run.{phase_at}
-use Rattle.psos_core.specs.Progress.{before}
-use Rattle.psos_core.proofs.Lists.{slice_get-front, slice_get-behind, all_append}
+use Rattle.psos_core.specs.UnderWay.{asked_before, AtLeast}
 
 -- ---- how many requests stand before a phase
 
-pub before_more : (phases : List (List Request)) (p : ℕ) → before phases (suc p) ≡ before phases p + length (slice_index_or phases p [])
-before_more [] zero = refl
-before_more [] (suc p) = refl
-before_more (x ∷ xs) zero = omega arith
-before_more (x ∷ xs) (suc p) = omega (arith, before_more xs p)
+-- they are requests of the user
+pub asked_all : (phases : List (List Request)) (p : ℕ) → asked_before phases p ≤ length (flat_map (λ x. x) phases)
+asked_all phases zero = omega arith
+asked_all [] (suc p) = omega arith
+asked_all (x ∷ xs) (suc p) = omega (arith, asked_all xs p, length-append x (flat_map (λ x. x) xs))
 
--- with the requests of the phase there are not more than are counted with the `phase` lines
-pub before_few : (phases : List (List Request)) (p : ℕ) → before phases p + length (slice_index_or phases p []) ≤ sum_by (λ p. length p + 1) phases
-before_few [] zero = omega arith
-before_few [] (suc p) = omega arith
-before_few (x ∷ xs) zero = omega (arith, sum_by-cons (λ (p : List Request). length p + 1) x xs)
-before_few (x ∷ xs) (suc p) = omega (arith, before_few xs p, sum_by-cons (λ (p : List Request). length p + 1) x xs)
+-- and not more than are counted with the `phase` lines
+pub asked_few : (phases : List (List Request)) (p : ℕ) → asked_before phases p ≤ sum_by (λ p. length p + 1) phases
+asked_few phases zero = omega arith
+asked_few [] (suc p) = omega arith
+asked_few (x ∷ xs) (suc p) = omega (arith, asked_few xs p, sum_by-cons (λ (p : List Request). length p + 1) x xs)
+
+-- so they can be counted
+pub asked_fits : (x : List Request) (xs : List (List Request)) (p : ℕ) → sum_by (λ p. length p + 1) (x ∷ xs) ≤ 241 → length x + asked_before xs p ≤ 241
+asked_fits x xs p few = omega (arith, few, asked_few (x ∷ xs) (suc p))
 
 pub phases_few : (phases : List (List Request)) → length phases ≤ sum_by (λ p. length p + 1) phases
 phases_few [] = omega arith
@@ -30,20 +34,16 @@ phases_few (x ∷ xs) = omega (arith, phases_few xs, sum_by-cons (λ (p : List R
 
 -- ---- the phase of a request
 
--- it is this phase, or a later one, or none
-abbrev pub AtLeast : ℕ → Option ℕ → Type 0
-AtLeast p None = Unit {0}
-AtLeast p (Some q) = p ≤ q
-
 later : (p : ℕ) (o : Option ℕ) → AtLeast p o → AtLeast (suc p) (option_map (λ q. q + 1) o)
 later p None h = tt
 later p (Some q) h = omega arith
 
-at_zero : (o : Option ℕ) → AtLeast 0 o
+pub at_zero : (o : Option ℕ) → AtLeast 0 o
 at_zero None = tt
 at_zero (Some q) = omega arith
 
-pub phase_low : (phases : List (List Request)) (p k : ℕ) → before phases p ≤ k → AtLeast p (phase_at phases k)
+-- past the requests before phase p there is no earlier phase
+pub phase_low : (phases : List (List Request)) (p k : ℕ) → asked_before phases p ≤ k → AtLeast p (phase_at phases k)
 phase_low phases zero k h = at_zero (phase_at phases k)
 phase_low [] (suc p) k h = tt
 phase_low (x ∷ xs) (suc p) k h =
@@ -51,40 +51,48 @@ phase_low (x ∷ xs) (suc p) k h =
     let P : Bool → Type 0 = λ b. AtLeast (suc p) (cond b (Some 0) (option_map (λ q. q + 1) (phase_at xs (k - length x)))) in
     subst P (sym not_here) (later p (phase_at xs (k - length x)) (phase_low xs p (k - length x) (omega arith)))
 
-pub phase_is : (phases : List (List Request)) (p j k : ℕ) → j < length (slice_index_or phases p []) → k ≡ before phases p + j → phase_at phases k ≡ Some p
-phase_is [] zero j k h e = absurd (omega arith)
-phase_is [] (suc p) j k h e = absurd (omega arith)
-phase_is (x ∷ xs) zero j k h e =
-    let here : ltb k (length x) ≡ true = lt-ltb k (length x) (omega arith) in
-    ap (λ (b : Bool). cond b (Some 0) (option_map (λ q. q + 1) (phase_at xs (k - length x)))) here
-phase_is (x ∷ xs) (suc p) j k h e =
-    let not_here : ltb k (length x) ≡ false = le-ltb k (length x) (omega arith) in
-    let rest : phase_at xs (k - length x) ≡ Some p = phase_is xs p j (k - length x) h (omega arith) in
-    ap (λ (b : Bool). cond b (Some 0) (option_map (λ q. q + 1) (phase_at xs (k - length x)))) not_here
-    ∙ ap (λ (o : Option ℕ). option_map (λ q. q + 1) o) rest ∙ ap (λ (n : ℕ). Some n) (omega arith)
+-- a request in an earlier phase than p
+pub record IsBefore (p : ℕ) (o : Option ℕ) : Type 0 where
+  pub phase : ℕ
+  pub is : o ≡ Some phase
+  pub less : phase < p
 
-pub phase_none : (phases : List (List Request)) (p : ℕ) → length phases ≤ p → phase_at phases (before phases p) ≡ None
-phase_none [] p h = refl
-phase_none (x ∷ xs) zero h = absurd (omega arith)
-phase_none (x ∷ xs) (suc p) h =
-    let k = before (x ∷ xs) (suc p) in
-    let not_here : ltb k (length x) ≡ false = le-ltb k (length x) (omega arith) in
-    let same : k - length x ≡ before xs p = omega arith in
-    ap (λ (b : Bool). cond b (Some 0) (option_map (λ q. q + 1) (phase_at xs (k - length x)))) not_here
-    ∙ ap (λ (n : ℕ). option_map (λ q. q + 1) (phase_at xs n)) same ∙ ap (λ (o : Option ℕ). option_map (λ q. q + 1) o) (phase_none xs p (omega arith))
+one_later : (p : ℕ) (o : Option ℕ) → IsBefore p o → IsBefore (suc p) (option_map (λ q. q + 1) o)
+one_later p o h = record { phase = h.phase + 1; is = ap (λ (o : Option ℕ). option_map (λ q. q + 1) o) h.is; less = omega (arith, h.less) }
 
--- ---- a request by its phase
+-- each of the requests before phase p is
+pub phase_high : (phases : List (List Request)) (p k : ℕ) → k < asked_before phases p → IsBefore p (phase_at phases k)
+phase_high phases zero k h = absurd (omega (arith, h))
+phase_high [] (suc p) k h = absurd (omega (arith, h))
+phase_high (x ∷ xs) (suc p) k h = by_test (ltb k (length x)) refl (λ past. one_later p (phase_at xs (k - length x)) (phase_high xs p (k - length x) (omega (arith, h, past))))
+  where
+    by_test : (b : Bool) → ltb k (length x) ≡ b → (length x ≤ k → IsBefore (suc p) (option_map (λ q. q + 1) (phase_at xs (k - length x))))
+        → IsBefore (suc p) (cond (ltb k (length x)) (Some 0) (option_map (λ q. q + 1) (phase_at xs (k - length x))))
+    by_test true e rest = record {
+      phase = 0;
+      is = ap (λ (b : Bool). cond b (Some 0) (option_map (λ q. q + 1) (phase_at xs (k - length x)))) e;
+      less = omega arith;
+    }
+    by_test false e rest =
+        let P : Bool → Type 0 = λ b. IsBefore (suc p) (cond b (Some 0) (option_map (λ q. q + 1) (phase_at xs (k - length x)))) in
+        subst P (sym e) (rest (ltb-false k (length x) e))
 
-pub request_at : (phases : List (List Request)) (p j k : ℕ) → j < length (slice_index_or phases p []) → k ≡ before phases p + j
-    → slice_get (flat_map (λ x. x) phases) k ≡ slice_get (slice_index_or phases p []) j
-request_at [] zero j k h e = absurd (omega arith)
-request_at [] (suc p) j k h e = absurd (omega arith)
-request_at (x ∷ xs) zero j k h e =
-    slice_get-front x (flat_map (λ x. x) xs) k (omega arith) ∙ ap (λ (n : ℕ). slice_get x n) (omega arith)
-request_at (x ∷ xs) (suc p) j k h e =
-    slice_get-behind x (flat_map (λ x. x) xs) (before xs p + j) k (omega arith) ∙ request_at xs p j (before xs p + j) h refl
+-- the next request is in no earlier phase
+pub phase_next : (phases : List (List Request)) (p k : ℕ) → phase_at phases k ≡ Some p → AtLeast p (phase_at phases (k + 1))
+phase_next phases p k e = by_order (cases_lt k (asked_before phases p))
+  where
+    by_order : (k < asked_before phases p) ⊎ (asked_before phases p ≤ k) → AtLeast p (phase_at phases (k + 1))
+    by_order (inl less) =
+        let early = phase_high phases p k less in
+        absurd (omega (arith, early.less, same_Some early.phase p (sym early.is ∙ e)))
+    by_order (inr past) = phase_low phases p (k + 1) (omega (arith, past))
 
--- what holds of all requests of all phases
-pub all_flat : (P : Request → Type 0) (phases : List (List Request)) → AllByRecursion (AllByRecursion P) phases → AllByRecursion P (flat_map (λ x. x) phases)
-all_flat P [] h = tt
-all_flat P (x ∷ xs) h = all_append P x (flat_map (λ x. x) xs) h.0 (all_flat P xs h.1)
+-- a phase is one of the user's
+pub phase_within : (phases : List (List Request)) (k p : ℕ) → phase_at phases k ≡ Some p → p < length phases
+phase_within [] k p e = absurd (none-some p e)
+phase_within (x ∷ xs) k p e = by_test (ltb k (length x)) (phase_at xs (k - length x)) (phase_within xs (k - length x)) e
+  where
+    by_test : (b : Bool) (o : Option ℕ) → ((q : ℕ) → o ≡ Some q → q < length xs) → cond b (Some 0) (option_map (λ q. q + 1) o) ≡ Some p → p < length (x ∷ xs)
+    by_test true o rest e = omega (arith, same_Some 0 p e)
+    by_test false None rest e = absurd (none-some p e)
+    by_test false (Some q) rest e = omega (arith, rest q refl, same_Some (q + 1) p e)

@@ -1,5 +1,5 @@
 -- A request that is served by its plan, put back among the users' own parts.
-use Rattle.std.proofs.Common.{◌≡◌, ℕ, ◌<◌, ◌≤◌, List, length, get_or, set, sym, ap, ◌∙◌, subst}
+use Rattle.std.proofs.Common.{◌≡◌, ℕ, ◌<◌, ◌≤◌, List, length, get_or, set, sym, ap, ◌∙◌, subst, arith}
 use Rattle.std.specs.Prelude.{slice_get, Some}
 use Rattle.std.specs.List.{refill}
 use Rattle.std.proofs.lemmas.List.{take_at, length-set}
@@ -16,13 +16,16 @@ use Rattle.psos_calls.specs.User.{User, place_of, after, CanSettle, CanMake}
 use Rattle.psos_calls.specs.Levels.{Levels, act}
 use Rattle.psos_calls.specs.Plan.{Plan, Close, Ask, Runs, run_plan}
 use Rattle.psos_calls.specs.PlanOf.{plan_of}
+use Rattle.psos_calls.specs.Lists.{HasLists}
 use Rattle.psos_model.specs.Answer.{outcome}
 use Rattle.psos_model.specs.Replay.{System}
 use Rattle.psos_model.proofs.Asked.{in_range}
 use Rattle.psos_agree.specs.Agreement.{Ready, Meets}
 use Rattle.psos_agree.proofs.Stepping.{all_agree, runs_run}
+use Rattle.psos_agree.proofs.Lengths.{plans_are_short}
+use Rattle.psos_agree.proofs.ListsStand.{directories_are_lists}
 use Rattle.psos_core.specs.Serving.{Asks, CanRun, IsPlanRun, IsServed}
-use Rattle.psos_core.proofs.Requests.{plan_few, step_is}
+use Rattle.psos_core.proofs.Requests.{step_is}
 use Rattle.psos_core.proofs.Found.{nobody}
 
 -- each call of a plan that runs can be made
@@ -34,6 +37,7 @@ runs_can (Ask call go) l P h = (h.0, runs_can (go (act l call).1) (act l call).0
 module _ (s : Script) (y : System) (u : ℕ) (request : Request) (asks : Asks s y u request) where
   ready : Ready s y asks.flat u asks.user request
   ready = record {
+    well = asks.well_formed;
     stands = asks.stands;
     sound = asks.sound;
     room = asks.room;
@@ -43,7 +47,11 @@ module _ (s : Script) (y : System) (u : ℕ) (request : Request) (asks : Asks s 
   }
 
   runs : Runs (plan_of asks.user request) y.levels (Meets asks.user y asks.flat (outcome asks.flat asks.user request))
-  runs = all_agree request asks.built s y asks.flat u asks.user ready
+  runs = all_agree request s y asks.flat u asks.user ready
+
+  -- its directories are entry lists
+  pub lists : HasLists y.levels
+  lists = directories_are_lists s y asks.flat asks.stands asks.sound
 
   pub ranged : InRange 64 request
   ranged = ready.in_range
@@ -66,8 +74,8 @@ module _ (s : Script) (y : System) (u : ℕ) (request : Request) (asks : Asks s 
       let P : User → Type 0 = λ x. CanRun (plan_of x request) y.levels in
       subst P (sym is) (runs_can (plan_of asks.user request) y.levels _ runs)
 
-  pub few_calls : (me : User) → length (run_plan (plan_of me request) y.levels).calls ≤ 44
-  few_calls me = plan_few me y.levels request asks.built
+  pub few_calls : (me : User) → me ≡ asks.user → length (run_plan (plan_of me request) y.levels).calls ≤ 44
+  few_calls me is = plans_are_short me y.levels request (omega (arith, ap (λ (x : User). length x.path) is, (asks.sound.users u asks.user ready.here).path))
 
   makes : CanMake asks.user (run_plan (plan_of asks.user request) y.levels).effect
   makes = (runs_run (plan_of asks.user request) y.levels (Meets asks.user y asks.flat (outcome asks.flat asks.user request)) runs).makes

@@ -1,4 +1,4 @@
--- Why a call of a level, or a run, may stop.
+-- Why a call of a level, or a run, may stop. States docs/levels.md, "Levels", and docs/program.md, "Statuses".
 use Rattle.std.specs.Prelude.{◌≡◌, ◌≤◌, ℕ, Result, IfErr}
 use Rattle.psos_io.specs.Causes.{Rose}
 use Rattle.psos_calls.specs.declared.level_answer.LevelAnswer.{LevelAnswer}

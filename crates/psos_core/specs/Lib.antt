@@ -1,7 +1,6 @@
 pub mod System
 pub mod Faults
-pub mod Order
 pub mod Serving
-pub mod Progress
+pub mod UnderWay
 pub mod Parts
 pub mod Booting

@@ -1,4 +1,4 @@
--- What serving one request, and all of them, leaves.
+-- What serving one request, and all of them, leaves. States docs/promises.md, "Replays".
 use Rattle.std.specs.Prelude.{◌≡◌, ◌+◌, ◌≤◌, ◌<◌, ◌^◌, ℕ, false, List, slice_get, map, Some}
 use Rattle.psos_calls.specs.declared.request.Request.{Request}
 use Rattle.psos_calls.specs.declared.reply.Reply.{Reply}
@@ -11,13 +11,13 @@ use Rattle.psos_calls.specs.User.{User, next_request, CanCount}
 use Rattle.psos_calls.specs.Levels.{Levels}
 use Rattle.psos_calls.specs.Plan.{Plan, PlanRun, Runs}
 use Rattle.psos_model.specs.Flat.{Flat}
-use Rattle.psos_model.specs.Spelling.{IsBuilt, IsBuiltRequest}
+use Rattle.psos_model.specs.Boot.{boot}
 use Rattle.psos_model.specs.Run.{has_left, run_from, answers_from, run, IsLegalFrom, IsComplete}
 use Rattle.psos_model.specs.Replay.{System, replay_step, replay_from, replay, entries_from, order_of, answered_of, AreFaithful}
 use Rattle.psos_model.specs.Output.{calls_of}
+use Rattle.psos_model.specs.SerialOrder.{IsSerialFrom}
 use Rattle.psos_model.specs.Sound.{IsSound, IsStart}
 use Rattle.psos_model.specs.StandsFor.{StandsFor}
-use Rattle.psos_core.specs.Order.{serial_order}
 
 -- where a run starts: the levels with the users' own parts, and the flat state that they stand for
 pub record Start : Type 0 where
@@ -26,7 +26,7 @@ pub record Start : Type 0 where
 
 -- the script can run from there: the flat state is sound, no request is answered, and identifiers are left
 pub record Starts (s : Script) (y : System) (f : Flat) : Type 0 where
-  pub built : IsBuilt s
+  pub well_formed : IsWellFormed s
   pub stands : StandsFor y f
   pub start : IsStart s f
 
@@ -54,7 +54,6 @@ pub record Asks (s : Script) (y : System) (u : ℕ) (request : Request) : Type 0
   pub flat : Flat
   pub here : slice_get y.users u ≡ Some user
   pub next : next_request s user ≡ Some request
-  pub built : IsBuiltRequest request
   pub well_formed : IsWellFormed s
   pub stands : StandsFor y flat
   pub sound : IsSound s flat
@@ -74,7 +73,7 @@ pub record IsRunFrom (s : Script) (y : System) (f : Flat) (entries : List Entry)
   pub over : (u : ℕ) → has_left s (run_from s f (order_of entries)).users u ≡ false
   pub recorded : entries ≡ entries_from s y (order_of entries)
   pub answered : map answered_of entries ≡ answers_from s f (order_of entries)
-  pub serial : order_of entries ≡ serial_order s
+  pub serial : IsSerialFrom s f (order_of entries)
   pub few : calls_of entries < 2 ^ 64
   pub replayed : left ≡ replay_from s y (order_of entries)
   pub stands : StandsFor left (run_from s f (order_of entries))
@@ -83,7 +82,7 @@ pub record IsRunFrom (s : Script) (y : System) (f : Flat) (entries : List Entry)
 pub record IsWholeRun (s : Script) (entries : List Entry) (left : System) : Type 0 where
   pub complete : IsComplete s (order_of entries)
   pub faithful : AreFaithful s entries
-  pub serial : order_of entries ≡ serial_order s
+  pub serial : IsSerialFrom s (boot s) (order_of entries)
   pub few : calls_of entries < 2 ^ 64
   pub replayed : left ≡ replay s (order_of entries)
   pub stands : StandsFor left (run s (order_of entries))

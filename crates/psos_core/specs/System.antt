@@ -1,4 +1,4 @@
--- The levels' states as the definitions see them.
+-- The levels' states as the definitions see them. States docs/levels.md, "Levels".
 use Rattle.psos_calls.specs.Levels as machines
 use Rattle.psos_model.specs.Replay.{System}
 use Rattle.psos_core.specs.declared.levels.Levels.{Levels}

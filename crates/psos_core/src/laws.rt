@@ -7,8 +7,7 @@ ghost use Rattle.psos_model.specs.Replay.{System};
 ghost use Rattle.psos_core.specs.Serving.{Starts, RunStands};
 
 /// After every legal order of users from a start, and so after each of its requests, the levels of the replay stand
-/// for the flat state of the run, and what was answered is the same (docs/promises.md, "Stands for"). Of scripts whose
-/// requests are built.
+/// for the flat state of the run, and what was answered is the same (docs/promises.md, "Stands for").
 pub fn runs_stand()
     ensures { (s : Script) (y : System) (f : Flat) (order : List ℕ) → Starts s y f → IsLegalFrom s f order → RunStands s y f order }
 {}

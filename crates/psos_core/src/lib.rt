@@ -5,6 +5,7 @@ mod boot;
 mod laws;
 mod levels;
 mod perform;
+mod plan;
 mod run;
 mod serial;
 mod serve;

@@ -1,20 +1,21 @@
 // The plan of a request, run call by call.
-ghost use Rattle.std.specs.Prelude.{◌≡◌, ◌≤◌, [], length, slice_get, Some, IfOk};
+ghost use Rattle.std.specs.Prelude.{◌≡◌, ◌≤◌, ◌<◌, [], ◌∷◌, ◌++◌, length, slice_get, Some, IfOk, OnOk};
 ghost use Rattle.psos_calls.specs.Request.{InRange};
 ghost use Rattle.psos_calls.specs.User.{User};
+ghost use Rattle.psos_calls.specs.Levels.{level_of, act, Can};
 ghost use Rattle.psos_calls.specs.Plan.{run_plan};
+ghost use Rattle.psos_calls.specs.Lists.{HasLists};
 ghost use Rattle.psos_calls.specs.PlanOf.{plan_of};
 ghost use Rattle.psos_calls.specs.Trace.{calls_in};
-ghost use Rattle.psos_model.specs.Spelling.{IsBuiltRequest};
 ghost use Rattle.psos_core.specs.System.{levels_of};
 ghost use Rattle.psos_core.specs.Faults.{MayStop};
 ghost use Rattle.psos_core.specs.Serving.{CanRun, IsPlanRun};
 
 use crate::Levels;
-use psos_calls::{Effect, LevelFault, Next, Reply, Request, Step, Trace};
+use crate::plan::next;
+use psos_calls::{Effect, Level, LevelCall, LevelFault, Next, Reply, Request, Trace};
 use psos_io::Store;
 use psos_journal::StopCause;
-use psos_plan_seg::next;
 use std::alloc::Global;
 
 /// How a request closes.
@@ -25,12 +26,41 @@ pub(crate) struct Closing {
 }
 
 // Why a run stops where a level's call could not be made.
-fn stop_cause(fault: LevelFault) -> StopCause
-    ensures store { result ≡ StopCause.Store → fault ≡ LevelFault.Store }
+fn stop_cause(fault: &LevelFault) -> StopCause
+    ensures store { result ≡ StopCause.Store → fault.now ≡ LevelFault.Store }
 {
-    match fault {
+    match *fault {
         LevelFault::Store => StopCause::Store,
         LevelFault::Memory(_) => StopCause::Memory,
+    }
+}
+
+// Makes a call, and keeps it in the trace with its answer, which is not moved, since it has room for a page.
+fn make<B: Store>(
+    alloc: Global,
+    levels: &mut Levels<B>,
+    trace: &mut Trace,
+    level: Level,
+    call: &LevelCall,
+) -> Result<(), StopCause>
+    requires level { level_of call.now ≡ level }
+    requires can { Can (levels_of levels.old) call.now }
+    requires room { length trace.old < 64 }
+    ensures levels { OnOk result (levels_of levels.new ≡ (act (levels_of levels.old) call.now).0) }
+    ensures trace { OnOk result (trace.new ≡ trace.old ++ record {
+      level = level;
+      call = call.now;
+      answer = (act (levels_of levels.old) call.now).1;
+    } ∷ []) }
+    ensures privates { levels.new.privates ≡ levels.old.privates }
+    ensures cause { MayStop (B.faults levels.old.pages.store) (B.faults levels.new.pages.store) result }
+{
+    match &levels.act(alloc, level, call) {
+        Ok(answer) => {
+            trace.push(level, call, answer);
+            Ok(())
+        }
+        Err(fault) => Err(stop_cause(fault)),
     }
 }
 
@@ -46,8 +76,8 @@ pub(crate) fn perform<B: Store>(
 ) -> Result<Closing, StopCause>
     ghost me: { User }
     requires user { slice_get levels.old.privates.items u ≡ Some me }
-    requires built { IsBuiltRequest request.now }
     requires in_range { InRange 64 request.now }
+    requires lists { HasLists (levels_of levels.old) }
     requires can { CanRun (plan_of me request.now) (levels_of levels.old) }
     requires few { length (run_plan (plan_of me request.now) (levels_of levels.old)).calls ≤ 44 }
     requires empty { trace.old ≡ [] }
@@ -62,14 +92,7 @@ pub(crate) fn perform<B: Store>(
             return Err(StopCause::Memory);
         };
         match then {
-            Next::Call(level, call) => match levels.act(alloc, level, &call) {
-                Ok(answer) => trace.push(Step {
-                    level,
-                    call,
-                    answer,
-                }),
-                Err(fault) => return Err(stop_cause(fault)),
-            },
+            Next::Call(level, call) => make(alloc, levels, trace, level, &call)?,
             Next::Close(reply, effect) => return Ok(Closing { reply, effect }),
         }
     }

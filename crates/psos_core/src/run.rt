@@ -50,7 +50,7 @@ fn into_store<B: Store>(levels: Levels<B>) -> B
 
 impl<B: Store> Core<B> {
     /// A run that is to start from these levels, which stand for a sound flat state in which no request of the script
-    /// is answered, no body is open and the next identifier is at most 2^63. It takes no memory today.
+    /// is answered, no body is open and the next identifier is at most 2^63. A refusal is for memory, which the trace of calls takes.
     pub fn new(alloc: Global, script: Script, levels: Levels<B>) -> Result<Core<B>, AllocError>
         requires { (f : Flat) × Starts script (system_of levels) f }
         ensures script { IfOk result (λ core. core.script ≡ script) }
@@ -63,7 +63,7 @@ impl<B: Store> Core<B> {
             levels,
             entries: Entries::empty(alloc),
             stopped: None,
-            trace: Trace::new(),
+            trace: Trace::new(alloc)?,
         })
     }
 

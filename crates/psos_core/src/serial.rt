@@ -1,14 +1,15 @@
 // All requests of a script, in the serial order.
-ghost use Rattle.std.specs.Prelude.{◌≡◌, ◌≤◌, ◌<◌, ◌+◌, [], length, OnOk};
+ghost use Rattle.std.specs.Prelude.{◌≡◌, ◌≤◌, ◌<◌, ◌+◌, [], length, map, sum_by, OnOk};
+ghost use Rattle.psos_calls.specs.Script.{IsWellFormed, user_script};
+ghost use Rattle.psos_model.specs.Run.{is_open};
 ghost use Rattle.psos_core.specs.System.{system_of};
 ghost use Rattle.psos_core.specs.Faults.{MayStop};
-ghost use Rattle.psos_core.specs.Order.{asked_in, phases_most};
 ghost use Rattle.psos_core.specs.Serving.{Start, Starts, IsRunFrom};
-ghost use Rattle.psos_core.specs.Progress.{HasServed};
+ghost use Rattle.psos_core.specs.UnderWay.{phases_most, asked_before, due, HasServed};
 
 use crate::Levels;
 use crate::serve::serve;
-use psos_calls::{Entry, Request, Script, Trace, UserText};
+use psos_calls::{Entry, Private, Request, Script, Trace, UserText};
 use psos_io::Store;
 use psos_journal::{Entries, StopCause};
 use std::alloc::Global;
@@ -24,19 +25,48 @@ fn phases_of(users: &[UserText]) -> usize
     most
 }
 
-// What user u asks in phase p.
-fn requests(script: &Script, p: usize, u: usize) -> &[Request]
-    requires { u < length script.now.users }
-    ensures { result.now ≡ asked_in script.now p u }
+// How many of a user's requests stand before phase p.
+fn asked_before(phases: &[Vec<Request>], p: usize) -> usize
+    requires few { sum_by (λ q. length q + 1) (map (λ q. q.items) phases.now) ≤ 241 }
+    ensures { result ≡ asked_before (map (λ q. q.items) phases.now) p }
 {
-    match script.users()[u].phases().get(p) {
-        Some(requests) => requests,
-        None => &[],
+    if p == 0 {
+        return 0;
+    }
+    match phases.split_first() {
+        Some((phase, later)) => phase.len() + asked_before(later, p - 1),
+        None => 0,
     }
 }
 
-// Serves what user u asks in phase p, where all before is served.
-fn serve_phase<B: Store>(
+// How many of user u's requests stand in the phases up to p.
+fn asked_up_to(script: &Script, p: usize, u: usize) -> usize
+    requires script { IsWellFormed script.now }
+    requires user { u < length script.now.users }
+    requires phase { p < phases_most script.now.users }
+    ensures { result ≡ asked_before (user_script script.now u).phases (p + 1) }
+{
+    asked_before(script.users()[u].phases(), p + 1)
+}
+
+fn is_open(me: &Private) -> bool
+    ensures { result ≡ is_open me.now.frames }
+{
+    me.label_and_line().is_some()
+}
+
+// What a user asks next, where a body is open, or not so many of its script requests are answered.
+fn due(script: &Script, me: &Private, count: usize) -> Option<Request>
+    ensures { result ≡ due script.now me.now count }
+{
+    if is_open(me) || (me.answered() as usize) < count {
+        return me.next_request(script);
+    }
+    None
+}
+
+// Serves what is left to user u up to phase p, and the lines of the bodies that its requests open.
+fn serve_user<B: Store>(
     alloc: Global,
     script: &Script,
     levels: &mut Levels<B>,
@@ -49,12 +79,13 @@ fn serve_phase<B: Store>(
     requires start { Starts script.now start.system start.flat }
     requires user { u < length script.now.users }
     requires phase { p < phases_most script.now.users }
-    requires before { HasServed script.now start.system start.flat (system_of levels.old) entries.old p u 0 }
-    ensures served { OnOk result (HasServed script.now start.system start.flat (system_of levels.new) entries.new p (u + 1) 0) }
+    requires before { HasServed script.now start.system start.flat (system_of levels.old) entries.old p u }
+    ensures served { OnOk result (HasServed script.now start.system start.flat (system_of levels.new) entries.new p (u + 1)) }
     ensures cause { MayStop (B.faults levels.old.pages.store) (B.faults levels.new.pages.store) result }
 {
-    'requests: for request in requests(script, p, u) {
-        let entry = serve(alloc, script, levels, trace, u as u8, request)?;
+    let count = asked_up_to(script, p, u);
+    'turns: while let Some(request) = due(script, &levels.privates.as_slice()[u], count) {
+        let entry = serve(alloc, script, levels, trace, u as u8, &request)?;
         if entries.push(entry).is_err() {
             return Err(StopCause::Memory);
         }
@@ -74,18 +105,20 @@ fn serve_users<B: Store>(
     ghost start: { Start }
     requires start { Starts script.now start.system start.flat }
     requires phase { p < phases_most script.now.users }
-    requires before { HasServed script.now start.system start.flat (system_of levels.old) entries.old p 0 0 }
-    ensures served { OnOk result (HasServed script.now start.system start.flat (system_of levels.new) entries.new (p + 1) 0 0) }
+    requires before { HasServed script.now start.system start.flat (system_of levels.old) entries.old p 0 }
+    ensures served { OnOk result (HasServed script.now start.system start.flat (system_of levels.new) entries.new (p + 1) 0) }
     ensures cause { MayStop (B.faults levels.old.pages.store) (B.faults levels.new.pages.store) result }
 {
     'users: for u in 0..script.users().len() {
-        serve_phase(alloc, script, levels, trace, entries, p, u)?;
+        serve_user(alloc, script, levels, trace, entries, p, u)?;
     }
     Ok(())
 }
 
-/// Serves all requests of the script from a start: phase by phase, and in each phase user by user in the order of the
-/// script. It stops for want of memory, or for a fault of the store, which its count shows.
+/// Serves all requests of the script from a start, each time the next request of the first user that has one left: a
+/// user's requests of a phase one after another, with the lines of the bodies that they open, then those of the next
+/// user, and a phase when all users are through with the one before. It stops for want of memory, or for a fault of
+/// the store, which its count shows.
 pub(crate) fn serve_phases<B: Store>(
     alloc: Global,
     script: &Script,

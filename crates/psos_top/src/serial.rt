@@ -1,8 +1,7 @@
 // The command `serial`.
 ghost use Rattle.std.specs.Prelude.{◌≡◌, ◌≤◌, None, IfSome, option_map};
 ghost use Rattle.psos_io.specs.Causes.{Rose};
-ghost use Rattle.psos_calls.specs.Script.{Script as Spelled};
-ghost use Rattle.psos_model.specs.Spelling.{IsBuilt};
+ghost use Rattle.psos_calls.specs.Script.{Script as Spelled, IsWellFormed};
 ghost use Rattle.psos_core.specs.System.{system_of};
 ghost use Rattle.psos_core.specs.Serving.{IsWholeRun};
 ghost use Rattle.psos_top.specs.Outcome.{read_fault_text, IsRefused, IsSerialStatus, HasNoRun, Wrote, IsPrinted, IsCut, IsUnfinished, IsNoRun, RunEnds};
@@ -45,7 +44,7 @@ fn run_script<K: Sink, B: Store>(
     output: &mut K,
     store: B,
 ) -> Outcome<B>
-    requires built { IsBuilt script }
+    requires well_formed { IsWellFormed script }
     requires least { 8 ≤ frames }
     requires most { frames ≤ 256 }
     ensures ends { RunEnds (K.took output.old) (K.took output.new) (K.faults output.old) (K.faults output.new)

@@ -1,5 +1,5 @@
 use Rattle.std.proofs.Common.{◌≡◌, drop, max}
-use Rattle.psos_core.specs.Order.{phases_most}
+use Rattle.psos_core.specs.UnderWay.{phases_most}
 use Rattle.psos_core.proofs.serial.phases_of.Given as goal
 
 abbrev pub invariant-users : goal.invariant-users

@@ -1,6 +1,6 @@
 use Rattle.std.proofs.Common.{◌≤◌}
 use Rattle.psos_core.specs.System.{system_of}
-use Rattle.psos_core.specs.Progress.{HasServed}
+use Rattle.psos_core.specs.UnderWay.{HasServed}
 use Rattle.psos_core.proofs.serial.serve_phases.Given as goal
 
 abbrev pub ghost-serve_users : goal.ghost-serve_users
@@ -8,5 +8,5 @@ ghost-serve_users g a = g.start
 
 abbrev pub invariant-phases : goal.invariant-phases
 invariant-phases g l =
-    (HasServed l.script g.start.system g.start.flat (system_of l.levels) l.entries l.p 0 0)
+    (HasServed l.script g.start.system g.start.flat (system_of l.levels) l.entries l.p 0)
     × (g.B.Store.faults l.initial.levels.pages.store ≤ g.B.Store.faults l.levels.pages.store)

@@ -5,5 +5,4 @@ use Rattle.psos_core.proofs.serial.serve_users.Goals as goal
 
 pub returns-clause-served : goal.returns-clause-served
 returns-clause-served g c =
-    next_phase c.args.script.now g.start.system g.start.flat (system_of c.users.levels) c.users.entries c.args.p c.users.u
-    c.requires.1.0.built (grind (arith)) c.users.invariant.0
+    next_phase c.args.script.now g.start.system g.start.flat c.requires.1.0 (system_of c.users.levels) c.users.entries c.args.p c.users.u c.users.invariant.0 (grind (arith))

@@ -2,7 +2,7 @@ use Rattle.std.proofs.Common.{◌≡◌, List, length, get_or, sym, ap, subst, �
 use Rattle.psos_calls.specs.User.{User, CanSettle, place_of, after}
 use Rattle.psos_core.specs.System.{system_of}
 use Rattle.psos_core.proofs.Found.{nobody}
-use Rattle.psos_core.proofs.Served.{ranged, within as user_within, is_user, me_is, me_there, can_run, few_calls, can_settle, served}
+use Rattle.psos_core.proofs.Served.{ranged, lists, within as user_within, is_user, me_is, me_there, can_run, few_calls, can_settle, served}
 use Rattle.psos_core.proofs.serve.serve.Goals as goal
 
 pub perform-requires : goal.perform-requires
@@ -13,7 +13,7 @@ perform-requires g c κs within =
     let r = c.args.request.now in
     let asks = c.requires in
     let me = get_or y.users u nobody in
-    (within, (me_there s y u r asks, (asks.built, (ranged s y u r asks, (can_run s y u r asks me (me_is s y u r asks), (few_calls s y u r asks me, c.clear.ensures))))))
+    (within, (me_there s y u r asks, (ranged s y u r asks, (lists s y u r asks, (can_run s y u r asks me (me_is s y u r asks), (few_calls s y u r asks me (me_is s y u r asks), c.clear.ensures))))))
 
 pub bounds-as_mut_slice-u : goal.bounds-as_mut_slice-u
 bounds-as_mut_slice-u g c =

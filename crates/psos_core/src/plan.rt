@@ -1,0 +1,52 @@
+// What the plan of a request does next, whatever its kind.
+ghost use Rattle.std.specs.Prelude.{◌≡◌, IfOk};
+ghost use Rattle.psos_calls.specs.Request.{InRange};
+ghost use Rattle.psos_calls.specs.Levels.{Levels};
+ghost use Rattle.psos_calls.specs.Lists.{HasLists};
+ghost use Rattle.psos_calls.specs.PlanOf.{plan_of};
+ghost use Rattle.psos_calls.specs.Trace.{followed, next_of, IsTraceOf};
+
+use psos_calls::{Next, Private, Request, Trace};
+use std::alloc::{AllocError, Global};
+
+/// What the plan of a request does after its calls so far (docs/requests.md, "Plans"): the next call, or the close. The
+/// trace is a front of a run of the plan, from levels in which each live directory has an entry list. A refusal is for
+/// memory, which only `list` takes, for its names.
+pub(crate) fn next(
+    alloc: Global,
+    request: &Request,
+    me: &Private,
+    trace: &Trace,
+) -> Result<Next, AllocError>
+    requires in_range { InRange 64 request.now }
+    requires trace { (l : Levels) × IsTraceOf (plan_of me.now request.now) l trace.now × HasLists l }
+    ensures { IfOk result (λ n. n ≡ next_of (followed (plan_of me.now request.now) trace.now)) }
+{
+    match *request {
+        Request::Mint { .. }
+        | Request::Restrict { .. }
+        | Request::Set { .. }
+        | Request::Move { .. }
+        | Request::Add { .. }
+        | Request::Read { .. }
+        | Request::Write { .. }
+        | Request::Window { .. }
+        | Request::Length { .. } => psos_plan_seg::next(alloc, request, me, trace),
+        Request::Lookup { .. }
+        | Request::Bind { .. }
+        | Request::Unbind { .. }
+        | Request::List { .. }
+        | Request::Path { .. }
+        | Request::Find { .. } => psos_plan_dir::next(alloc, request, me, trace),
+        Request::Impl { .. }
+        | Request::MkSeg { .. }
+        | Request::MkDir { .. }
+        | Request::MkType { .. }
+        | Request::MkObj { .. }
+        | Request::MkCode { .. }
+        | Request::Delete { .. } => psos_plan_life::next(alloc, request, me, trace),
+        Request::Send { .. } | Request::Recv { .. } | Request::Call { .. } => {
+            psos_plan_proc::next(alloc, request, me, trace)
+        }
+    }
+}
