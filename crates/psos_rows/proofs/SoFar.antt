@@ -15,7 +15,8 @@ use Rattle.psos_print.specs.Line.{answered_in}
 use Rattle.psos_laws.proofs.SharedSound.{answers_kept}
 use Rattle.psos_laws.proofs.BootSound.{boot_sound, boot_start}
 use Rattle.psos_laws.proofs.OrdersEnd.{orders_end}
-use Rattle.psos_rows.specs.Serial.{IsFirst, IsSerialFrom, IsSerialRun, order_in}
+use Rattle.psos_model.specs.SerialOrder.{IsFirst, IsSerialFrom}
+use Rattle.psos_rows.specs.Serial.{IsSerialRun, order_in}
 use Rattle.psos_rows.specs.Running.{IsRunning, IsNext}
 
 -- ---- one user more at the end

@@ -1,24 +1,22 @@
 // The worked rows of the whole system: scripts, and what they print.
+ghost use Rattle.psos_calls.specs.Script.{IsWellFormed};
+
 use crate::reader::read;
 use crate::{is_well_formed, serial_lines};
-use psos_calls::{Line, Script};
-use psos_print::put_line;
+use psos_calls::Script;
+use psos_core::{Core, Levels};
+use psos_io::{MemSink, NoStore, Store};
+use psos_print::{put_line, put_transcript};
 use psos_text::put_number;
 use std::alloc::Global;
 use std::process::Abort;
 use std::test::Fail;
 
-// The lines of a run of a script.
-fn lines(alloc: Global, script: &Script) -> Result<Vec<Line>, Fail> {
-    if !is_well_formed(script) {
-        return Err(Fail::new("no script"));
-    }
-    Ok(serial_lines(alloc, script)?)
-}
-
-// What a run prints, user after user.
-fn printed(alloc: Global, script: &Script) -> Result<Vec<u8>, Fail> {
-    let lines = lines(alloc, script)?;
+// What the plain program says, user after user.
+fn flat_text(alloc: Global, script: &Script) -> Result<Vec<u8>, Fail>
+    requires { IsWellFormed script.now }
+{
+    let lines = serial_lines(alloc, script)?;
     let mut out = b"\n".to_vec(alloc)?;
     let mut number = 0usize;
     'users: for user in script.users() {
@@ -32,13 +30,47 @@ fn printed(alloc: Global, script: &Script) -> Result<Vec<u8>, Fail> {
     Ok(out)
 }
 
+// What the core says, which makes the level calls of each plan.
+fn core_text<B: Store>(alloc: Global, script: Script, store: B) -> Result<Vec<u8>, Fail>
+    requires { IsWellFormed script }
+{
+    let levels = Levels::boot(alloc, &script, 8, store)?;
+    let mut core = Core::new(alloc, script, levels)?;
+    if core.serial(alloc).is_err() {
+        return Err(Fail::new("stopped"));
+    }
+    let mut sink = MemSink::new(1 << 20, Vec::new(alloc));
+    sink.reserve(alloc, 1 << 20)?;
+    put_transcript(alloc, &core.script, &core.entries, &mut sink)?;
+    let mut out = b"\n".to_vec(alloc)?;
+    out.extend_from_slice(sink.bytes())?;
+    Ok(out)
+}
+
+// What a run prints. The plain program and the core, beside one another, say the same: each reply, place and stamp.
+fn printed<R: Abort>(rt: &R, text: &[u8]) -> Result<Vec<u8>, Fail>
+where
+    R: AllocGlobal,
+{
+    let alloc = rt.alloc();
+    let script = read(alloc, text)?;
+    if !is_well_formed(&script) {
+        return Err(Fail::new("no script"));
+    }
+    let out = flat_text(alloc, &script)?;
+    assert_eq!(rt;
+        core_text(alloc, script, NoStore::new())?.as_slice(),
+        out.as_slice()
+    );
+    Ok(out)
+}
+
 // The script of these lines prints this.
 fn expect<R: Abort>(rt: &R, text: &[u8], output: &[u8]) -> Result<(), Fail>
 where
     R: AllocGlobal,
 {
-    let alloc = rt.alloc();
-    let out = printed(alloc, &read(alloc, text)?)?;
+    let out = printed(rt, text)?;
     assert_eq!(rt; out.as_slice(), output);
     Ok(())
 }
@@ -718,7 +750,7 @@ fn all_windows(rt: HostRuntime) -> Result<(), Fail> {
     put_times(&mut text, 16, b"window r5 r4 0 1\n")?;
     text.extend_from_slice(b"end\nuser alice\nmove r4 r3\nmkcode r8 r2 c win r0\n")?;
     put_times(&mut text, 17, b"call r8\n")?;
-    let out = printed(alloc, &read(alloc, &text)?)?;
+    let out = printed(&rt, &text)?;
     assert_eq!(rt; count(&out, b""), 293);
     assert_eq!(rt; count(&out, b"alice 1 @0 cap 6 ffff"), 1);
     assert_eq!(rt; count(&out, b"alice 3/1 @3 cap 8 ffff"), 1);
@@ -747,7 +779,7 @@ fn all_objects(rt: HostRuntime) -> Result<(), Fail> {
     'more: for i in 1..6u64 {
         put_numbered(alloc, &mut text, b"mkdir r4 r9 n", i, b" 0\ncall r8\n")?;
     }
-    let out = printed(alloc, &read(alloc, &text)?)?;
+    let out = printed(&rt, &text)?;
 
     // 34 requests that make objects, 32 calls, and 480 lines of their bodies.
     assert_eq!(rt; count(&out, b""), 548);
@@ -766,7 +798,7 @@ fn all_requests_of_a_charge(rt: HostRuntime) -> Result<(), Fail> {
     let mut text = b"code tree\n".to_vec(alloc)?;
     put_times(&mut text, 16, b"call r4\n")?;
     text.extend_from_slice(b"end\nuser alice\nmkcode r4 r2 c tree r0\ncall r4\n")?;
-    let out = printed(alloc, &read(alloc, &text)?)?;
+    let out = printed(&rt, &text)?;
     assert_eq!(rt; count(&out, b""), 4084);
     assert_eq!(rt; count(&out, b"alice 1 @0 cap 7 ffff"), 1);
     assert_eq!(rt; count(&out, b" ok"), 255);

@@ -1,0 +1,5 @@
+use Rattle.psos_model.specs.Boot.{boot}
+use Rattle.psos_rows.proofs.tests.core_text.Given as goal
+
+abbrev pub ghost-serial : goal.ghost-serial
+ghost-serial g a = boot a.self.now.script
