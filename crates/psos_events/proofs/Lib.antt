@@ -1,0 +1,13 @@
+pub mod Boxes
+pub mod Under
+pub mod Traces
+pub mod Holders
+pub mod Replays
+pub mod Moves
+pub mod Kept
+pub mod Walks
+pub mod Falling
+pub mod Phases
+pub mod Progress
+pub mod Able
+pub mod Turns

@@ -1,0 +1,5 @@
+use Rattle.psos_events.proofs.Kept as kept
+use Rattle.psos_events.proofs.laws.events_are_serial.Goals as goal
+
+pub returns : goal.returns
+returns c = kept.events_are_serial

@@ -1,0 +1,5 @@
+use Rattle.psos_events.proofs.Able as able
+use Rattle.psos_events.proofs.laws.events_commit.Goals as goal
+
+pub returns : goal.returns
+returns c = able.events_commit

@@ -1,0 +1,5 @@
+use Rattle.psos_events.proofs.Turns as turns
+use Rattle.psos_events.proofs.laws.one_turns_order.Goals as goal
+
+pub returns : goal.returns
+returns c = turns.one_turns_order

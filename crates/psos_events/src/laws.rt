@@ -1,0 +1,38 @@
+// Laws of events.
+ghost use Rattle.psos_model.specs.Laws.{OneTurnsOrder};
+ghost use Rattle.psos_model.specs.Serial.{EventsAreSerial, NeverStuck};
+ghost use Rattle.psos_events.specs.Events.{BootIsCoreStart, EventsCommit, EventsCanHappen};
+
+/// After any enabled events from a start, what the core has done is the replay of the requests that closed, one after
+/// another, and the order of their closes is legal (docs/levels.md, "Locks").
+pub fn events_are_serial()
+    ensures { EventsAreSerial }
+{}
+
+/// After any enabled events from a start, some user's event is enabled while a user has a request left
+/// (docs/levels.md, "Locks").
+pub fn never_stuck()
+    ensures { NeverStuck }
+{}
+
+/// A well-formed script can run from boot, level by level (docs/promises.md, "Stands for").
+pub fn boot_is_core_start()
+    ensures { BootIsCoreStart }
+{}
+
+/// After any enabled events from a start, what the core has committed stands for the flat state of the run of its
+/// closes, and its entries say what that run answers (docs/levels.md, "Locks").
+pub fn events_commit()
+    ensures { EventsCommit }
+{}
+
+/// After any enabled events from a start, each event can happen: a call that is made next meets its condition, and
+/// where a request closes next, its user's part can be settled (docs/levels.md, "Calls").
+pub fn events_can_happen()
+    ensures { EventsCanHappen }
+{}
+
+/// A seed has one order of turns at most (docs/program.md, "Turns").
+pub fn one_turns_order()
+    ensures { OneTurnsOrder }
+{}

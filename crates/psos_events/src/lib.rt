@@ -1,0 +1,9 @@
+//! Laws of the core: events of users, each of which takes a lock, makes a call or closes a request.
+#![tactic(auto)]
+
+mod laws;
+
+pub use laws::{
+    boot_is_core_start, events_are_serial, events_can_happen, events_commit, never_stuck,
+    one_turns_order,
+};
