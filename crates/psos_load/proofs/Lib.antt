@@ -1,0 +1,5 @@
+pub mod Left
+pub mod Words
+pub mod Spelled
+pub mod Requests
+pub mod Users

@@ -1,0 +1,9 @@
+//! A script that is made from a number (docs/program.md, "Load").
+#![tactic(auto)]
+
+mod line;
+mod script;
+#[cfg(test)]
+mod tests;
+
+pub use script::script_text;

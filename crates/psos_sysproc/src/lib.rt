@@ -1,0 +1,18 @@
+//! The locks that users hold, what a user may do next, and the draws of turns.
+//!
+//! Users hold locks in a table of their own (docs/levels.md, "Locks"), and a generator draws whose turn it is
+//! (docs/program.md, "Turns"). Nothing here knows a level or a plan.
+#![tactic(auto)]
+
+mod held;
+mod holding;
+mod order;
+mod table;
+#[cfg(test)]
+mod tests;
+mod turns;
+mod want;
+
+pub use table::Table;
+pub use turns::Turns;
+pub use want::Want;
