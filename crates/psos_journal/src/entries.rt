@@ -7,7 +7,7 @@ use std::marker::Model;
 /// Entries in order, seen as their list. It only grows, and holds fewer than 2^32.
 #[derive(Drop)]
 pub struct Entries<E> {
-    items: Vec<E>,
+    pub(crate) items: Vec<E>,
 }
 
 impl<E> Model for Entries<E> {

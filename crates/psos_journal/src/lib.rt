@@ -1,8 +1,46 @@
 //! The history of a run: its entries in order, and why a run stops.
 #![tactic(auto)]
 
+mod append;
+mod begin_fault;
+mod blanks;
+mod books;
+mod cells;
+mod count_of;
 mod entries;
+mod faults_of;
+mod fresh;
+mod ground;
+mod journal;
+mod kept;
+mod law;
+mod mark;
+mod member;
+mod names;
+mod opening;
+mod own;
+mod past;
+mod pen;
+mod receipt;
+mod row;
+mod single;
+mod steps;
 mod stop_cause;
+mod tally;
+mod told_of;
 
+pub use begin_fault::BeginFault;
 pub use entries::Entries;
+pub use faults_of::FaultsOf;
+pub use ground::Ground;
+pub use journal::Journal;
+pub use member::Member;
+pub use names::Names;
+pub use pen::Pen;
+pub use receipt::Receipt;
+pub use single::Single;
 pub use stop_cause::StopCause;
+pub use tally::Tally;
+
+#[cfg(test)]
+mod tests;

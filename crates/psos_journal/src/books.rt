@@ -1,0 +1,74 @@
+// The journal's side of all members' counts.
+ghost use Rattle.std.specs.Prelude.{◌≡◌, ◌+◌, slice_index, slice_set};
+ghost use Rattle.psos_journal.specs.Counts.{number_of, amount_of, totals};
+
+use crate::count_of::CountOf;
+use crate::kept::Kept;
+use crate::mark::Mark;
+use crate::names::Names;
+
+/// The number of the entries of each of 24 members, as the journal keeps it.
+#[derive(Drop)]
+pub(crate) struct Books<T: Names> {
+    pub(crate) c0: Kept<CountOf<T, 0>>,
+    pub(crate) c1: Kept<CountOf<T, 1>>,
+    pub(crate) c2: Kept<CountOf<T, 2>>,
+    pub(crate) c3: Kept<CountOf<T, 3>>,
+    pub(crate) c4: Kept<CountOf<T, 4>>,
+    pub(crate) c5: Kept<CountOf<T, 5>>,
+    pub(crate) c6: Kept<CountOf<T, 6>>,
+    pub(crate) c7: Kept<CountOf<T, 7>>,
+    pub(crate) c8: Kept<CountOf<T, 8>>,
+    pub(crate) c9: Kept<CountOf<T, 9>>,
+    pub(crate) c10: Kept<CountOf<T, 10>>,
+    pub(crate) c11: Kept<CountOf<T, 11>>,
+    pub(crate) c12: Kept<CountOf<T, 12>>,
+    pub(crate) c13: Kept<CountOf<T, 13>>,
+    pub(crate) c14: Kept<CountOf<T, 14>>,
+    pub(crate) c15: Kept<CountOf<T, 15>>,
+    pub(crate) c16: Kept<CountOf<T, 16>>,
+    pub(crate) c17: Kept<CountOf<T, 17>>,
+    pub(crate) c18: Kept<CountOf<T, 18>>,
+    pub(crate) c19: Kept<CountOf<T, 19>>,
+    pub(crate) c20: Kept<CountOf<T, 20>>,
+    pub(crate) c21: Kept<CountOf<T, 21>>,
+    pub(crate) c22: Kept<CountOf<T, 22>>,
+    pub(crate) c23: Kept<CountOf<T, 23>>,
+}
+
+impl<T: Names> Books<T> {
+    /// Both sides of the member's count are one number, and more is added to both.
+    pub(crate) fn step(&mut self, mark: &mut Mark<T>, more: u64)
+        ensures meets { slice_index (totals self.old) (number_of mark.old) ≡ amount_of mark.old }
+        ensures totals { totals self.new ≡ slice_set (totals self.old) (number_of mark.old) (amount_of mark.old + more) }
+        ensures number { number_of mark.new ≡ number_of mark.old }
+        ensures amount { amount_of mark.new ≡ amount_of mark.old + more }
+    {
+        match mark {
+            Mark::M0(own) => self.c0.step(own, more),
+            Mark::M1(own) => self.c1.step(own, more),
+            Mark::M2(own) => self.c2.step(own, more),
+            Mark::M3(own) => self.c3.step(own, more),
+            Mark::M4(own) => self.c4.step(own, more),
+            Mark::M5(own) => self.c5.step(own, more),
+            Mark::M6(own) => self.c6.step(own, more),
+            Mark::M7(own) => self.c7.step(own, more),
+            Mark::M8(own) => self.c8.step(own, more),
+            Mark::M9(own) => self.c9.step(own, more),
+            Mark::M10(own) => self.c10.step(own, more),
+            Mark::M11(own) => self.c11.step(own, more),
+            Mark::M12(own) => self.c12.step(own, more),
+            Mark::M13(own) => self.c13.step(own, more),
+            Mark::M14(own) => self.c14.step(own, more),
+            Mark::M15(own) => self.c15.step(own, more),
+            Mark::M16(own) => self.c16.step(own, more),
+            Mark::M17(own) => self.c17.step(own, more),
+            Mark::M18(own) => self.c18.step(own, more),
+            Mark::M19(own) => self.c19.step(own, more),
+            Mark::M20(own) => self.c20.step(own, more),
+            Mark::M21(own) => self.c21.step(own, more),
+            Mark::M22(own) => self.c22.step(own, more),
+            Mark::M23(own) => self.c23.step(own, more),
+        }
+    }
+}
