@@ -3,6 +3,7 @@
 
 mod answer;
 mod bodies;
+pub mod close;
 mod code;
 mod code_row;
 mod effect;

@@ -1,10 +1,11 @@
 // What a request does.
 ghost use Rattle.std.specs.Prelude.{◌≡◌, [], Some, None};
-ghost use Rattle.psos_calls.specs.Plan.{word_reply, uid as uid_of};
+ghost use Rattle.psos_calls.specs.Plan.{uid as uid_of};
 ghost use Rattle.psos_model.specs.Places.{reg_place};
 ghost use Rattle.psos_model.specs.Outcome.{refuse, gives, does, by, own};
 
 use crate::{ChangeList, Place, Source};
+use psos_calls::close::word_reply;
 use psos_calls::{Effect, Private, Refusal, Reply, Right};
 use psos_words::Word;
 
@@ -86,14 +87,5 @@ pub(crate) fn reg_place(me: &Private, i: u8) -> Place
         user: me.number(),
         depth: (depth - 1) as u8,
         i,
-    }
-}
-
-fn word_reply(word: Word) -> Reply
-    ensures { result ≡ word_reply word }
-{
-    match word {
-        Word::Data(n) => Reply::Data(n),
-        Word::Cap(cap) => Reply::Cap(cap),
     }
 }

@@ -4,23 +4,8 @@ ghost use Rattle.psos_calls.specs.Plan.{if_done};
 ghost use Rattle.psos_calls.specs.PlanParts.{fine as it_is_done};
 ghost use Rattle.psos_calls.specs.Trace.{next_of};
 
-use psos_calls::{Effect, LevelAnswer, Next, Refusal, Reply};
-use psos_caps::Cap;
-use psos_words::Word;
-
-/// A capability goes into a register, and is the reply.
-pub(crate) fn give(rd: u8, cap: Cap) -> Next
-    ensures { result ≡ Next.Close (Reply.Cap cap) (Effect.Put rd (Word.Cap cap)) }
-{
-    Next::Close(Reply::Cap(cap), Effect::Put(rd, Word::Cap(cap)))
-}
-
-/// A refusal has no effect.
-pub(crate) fn refuse(refusal: Refusal) -> Next
-    ensures { result ≡ Next.Close (Reply.No refusal) Effect.Nothing }
-{
-    Next::Close(Reply::No(refusal), Effect::Nothing)
-}
+use psos_calls::close::{fine, refuse};
+use psos_calls::{LevelAnswer, Next};
 
 /// After the last call: it was done, or refused.
 pub(crate) fn done(answer: &LevelAnswer) -> Next
@@ -28,6 +13,6 @@ pub(crate) fn done(answer: &LevelAnswer) -> Next
 {
     match answer {
         LevelAnswer::No(refusal) => refuse(*refusal),
-        _ => Next::Close(Reply::Fine, Effect::Nothing),
+        _ => fine(),
     }
 }

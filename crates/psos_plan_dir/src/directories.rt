@@ -11,8 +11,9 @@ ghost use Rattle.psos_calls.specs.Tests.{if_holds};
 ghost use Rattle.psos_calls.specs.PlanDir.{plan_bind, plan_lookup, plan_unbind};
 ghost use Rattle.psos_plan_dir.specs.Reads.{IsRun};
 
-use crate::close::{done, give, refuse};
+use crate::close::done;
 use crate::{Open, Reading, open_dir, read_dir};
+use psos_calls::close::{give, refuse};
 use psos_calls::{Level, LevelAnswer, LevelCall, Next, Private, Refusal, Right, Step};
 use psos_dirrep::{Found, entry_words, gone_words};
 use psos_guards::admits;
@@ -33,7 +34,7 @@ pub(crate) fn next_lookup(me: &Private, rd: u8, rs: u8, name: &Name, trace: &[St
         Reading::Done(open, _) => open,
     };
     match open.find(name) {
-        Some(found) => give(rd, found.cap),
+        Some(found) => give(rd, Word::Cap(found.cap)),
         None => refuse(Refusal::UnknownName),
     }
 }

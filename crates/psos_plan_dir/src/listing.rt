@@ -6,8 +6,8 @@ ghost use Rattle.psos_calls.specs.PlanDir.{plan_list};
 ghost use Rattle.psos_plan_dir.specs.Listing.{TellsNames};
 ghost use Rattle.psos_plan_dir.specs.Reads.{IsRun};
 
-use crate::close::refuse;
 use crate::{Reading, open_dir};
+use psos_calls::close::refuse;
 use psos_calls::{Effect, Next, Private, Refusal, Reply, Right, Step};
 use psos_words::Word;
 use std::alloc::{AllocError, Global};

@@ -5,8 +5,8 @@ ghost use Rattle.psos_calls.specs.PlanParts.{read_dir as dir_read, read_pages as
 ghost use Rattle.psos_plan_dir.specs.Pages.{is_more as more, last_page, pages_first as counted, reads_page as page_read};
 ghost use Rattle.psos_plan_dir.specs.Reads.{open_with, IsCapFront, IsDirFront, IsRepFront, IsSlotFront, Reads};
 
-use crate::close::refuse;
 use crate::{Open, Reading};
+use psos_calls::close::refuse;
 use psos_calls::{Level, LevelAnswer, LevelCall, Next, Refusal, Right, Step};
 use psos_caps::{Cap, Uid};
 use psos_dirrep::has_never;

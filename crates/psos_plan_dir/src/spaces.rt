@@ -9,8 +9,8 @@ ghost use Rattle.psos_calls.specs.PlanDir.{plan_find, plan_path};
 ghost use Rattle.psos_plan_dir.specs.Asked.{asked as count_asked, asks_dir as is_for_dir, BeginsWithDir};
 ghost use Rattle.psos_plan_dir.specs.Reads.{IsRun};
 
-use crate::close::{give, refuse};
 use crate::{Open, Reading, read_dir};
+use psos_calls::close::{give, refuse};
 use psos_calls::{
     Effect, Level, LevelAnswer, LevelCall, Next, Path, Private, Refusal, Reply, Right, Step, Tab,
 };
@@ -73,7 +73,7 @@ fn find_from(path: &Path, i: usize, rd: u8, name: &Name, trace: &[Step]) -> Next
         Reading::Done(open, rest) => (open, rest),
     };
     match found_now(&open, name, rest) {
-        Some(found) => give(rd, found.cap),
+        Some(found) => give(rd, Word::Cap(found.cap)),
         None => find_from(path, i + 1, rd, name, rest),
     }
 }

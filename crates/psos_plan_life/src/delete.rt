@@ -10,9 +10,9 @@ ghost use Rattle.psos_plan_dir.specs.Reads.{IsRun, Reads};
 ghost use Rattle.psos_plan_life.specs.Parts.{Stops};
 ghost use Rattle.psos_plan_life.specs.Deletes.{held_dir, picking, forgotten, deleting, IsHeldFront, IsDeleting, IsEntryOf, IsPicked};
 
-use crate::close::{fine, refuse};
 use crate::gone::kind_gone;
 use crate::parts::done;
+use psos_calls::close::{fine, refuse};
 use psos_calls::{Kind, Level, LevelAnswer, LevelCall, Next, Private, Refusal, Right, Step};
 use psos_caps::{Cap, Uid};
 use psos_dirrep::gone_words;

@@ -9,9 +9,9 @@ ghost use Rattle.psos_calls.specs.Trace.{followed, next_of};
 ghost use Rattle.psos_plan_life.specs.Parts.{Tells};
 ghost use Rattle.psos_plan_life.specs.Places.{free_place};
 
-use crate::close::{give, refuse};
 use crate::parts::done;
 use crate::place::Place;
+use psos_calls::close::{give, refuse};
 use psos_calls::{Kind, Level, LevelAnswer, LevelCall, Next, Step};
 use psos_dirrep::entry_words;
 use psos_text::Name;

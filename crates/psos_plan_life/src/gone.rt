@@ -3,9 +3,9 @@ ghost use Rattle.psos_calls.specs.declared.kind.Kind.TheVariants.{Directory};
 ghost use Rattle.psos_plan_life.specs.Parts.{Tells};
 ghost use Rattle.psos_plan_life.specs.Deletes.{kind_dropped, emptied, IsDropping, IsEmptying};
 
-use crate::close::refuse;
 use crate::parts::done;
 use crate::store::{object_gone, segment_gone};
+use psos_calls::close::refuse;
 use psos_calls::{Kind, Level, LevelCall, Next, Refusal, Step};
 use psos_caps::Uid;
 use psos_plan_dir::{Open, Reading, read_dir};

@@ -4,7 +4,7 @@ ghost use Rattle.psos_calls.specs.User.{here};
 ghost use Rattle.psos_calls.specs.Trace.{followed, next_of};
 ghost use Rattle.psos_calls.specs.PlanLife.{plan_impl};
 
-use crate::close::{give, refuse};
+use psos_calls::close::{give, refuse};
 use psos_calls::{Level, LevelAnswer, LevelCall, Next, Private, Refusal, Step};
 use psos_words::Word;
 

@@ -4,7 +4,6 @@
 //! (docs/requests.md, "Plans"). What plans share are parts: each gives the steps behind it, or stops with what comes next.
 #![tactic(auto)]
 
-mod close;
 mod delete;
 mod enrol;
 mod gone;

@@ -7,12 +7,12 @@ ghost use Rattle.psos_calls.specs.Trace.{followed, next_of};
 ghost use Rattle.psos_calls.specs.PlanLife.{plan_mkseg, plan_mkdir, plan_mktype, plan_mkobj, plan_mkcode};
 ghost use Rattle.psos_plan_dir.specs.Reads.{IsRun};
 
-use crate::close::refuse;
 use crate::enrol::enrol;
 use crate::parts::done;
 use crate::place::make_in;
 use crate::shape::{guard_of, segment_len};
 use crate::store::{directory, representation, segment};
+use psos_calls::close::refuse;
 use psos_calls::{Kind, Level, LevelCall, Next, Private, Refusal, Step};
 use psos_caps::Rights;
 use psos_text::Name;

@@ -4,7 +4,7 @@ ghost use Rattle.psos_calls.specs.Levels.{level_of};
 ghost use Rattle.psos_calls.specs.PlanParts.{with_fresh};
 ghost use Rattle.psos_plan_life.specs.Parts.{Gives, Stops, Tells, Leads, doing, taking, naming};
 
-use crate::close::refuse;
+use psos_calls::close::refuse;
 use psos_calls::{Level, LevelAnswer, LevelCall, Next, Refusal, Step};
 use psos_caps::{Cap, Uid};
 

@@ -5,8 +5,8 @@ ghost use Rattle.psos_plan_life.specs.Parts.{Stops};
 ghost use Rattle.psos_plan_life.specs.Places.{placing, making, opening, IsPlacing, IsOpening, IsMaking, IsPlaced};
 ghost use Rattle.psos_plan_dir.specs.Reads.{Reads};
 
-use crate::close::refuse;
 use crate::parts::{done, fresh};
+use psos_calls::close::refuse;
 use psos_calls::{Level, LevelAnswer, LevelCall, Next, Refusal, Right, Step};
 use psos_caps::Cap;
 use psos_plan_dir::{Open, Reading, open_dir, read_rep};

@@ -4,7 +4,7 @@ ghost use Rattle.psos_calls.specs.User.{here};
 ghost use Rattle.psos_calls.specs.Trace.{followed, next_of};
 ghost use Rattle.psos_calls.specs.PlanProc.{plan_send, plan_recv, plan_call};
 
-use crate::close::{enter, fine, give, refuse};
+use psos_calls::close::{enter, fine, give, refuse};
 use psos_calls::{Level, LevelAnswer, LevelCall, Next, Private, Refusal, Step, Tab, limits};
 use psos_words::Word;
 

@@ -4,7 +4,6 @@
 //! (docs/requests.md, "Plans").
 #![tactic(auto)]
 
-mod close;
 mod plan;
 mod registers;
 mod segments;

@@ -5,7 +5,7 @@ ghost use Rattle.psos_calls.specs.Levels.{Levels};
 ghost use Rattle.psos_calls.specs.Trace.{followed, next_of, IsTraceOf};
 ghost use Rattle.psos_calls.specs.PlanSeg.{plan_read, plan_write, plan_window, plan_length};
 
-use crate::close::{fine, give, refuse};
+use psos_calls::close::{fine, give, refuse};
 use psos_calls::{Level, LevelAnswer, LevelCall, Next, Private, Refusal, Right, Step};
 use psos_words::Word;
 
