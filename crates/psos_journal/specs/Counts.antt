@@ -3,61 +3,61 @@ use Rattle.std.specs.Prelude.{◌≡◌, ℕ, List, [], ◌∷◌}
 use Rattle.psos_journal.specs.declared.blanks.Blanks.{Blanks}
 use Rattle.psos_journal.specs.declared.books.Books.{Books}
 use Rattle.psos_journal.specs.declared.mark.Mark.{Mark}
-use Rattle.psos_journal.specs.declared.mark.Mark.TheVariants.{M0, M1, M2, M3, M4, M5, M6, M7, M8, M9, M10, M11, M12, M13, M14, M15, M16, M17, M18, M19, M20, M21, M22, M23}
+use Rattle.psos_journal.specs.declared.mark.Mark.TheVariants.{Member0, Member1, Member2, Member3, Member4, Member5, Member6, Member7, Member8, Member9, Member10, Member11, Member12, Member13, Member14, Member15, Member16, Member17, Member18, Member19, Member20, Member21, Member22, Member23}
 
 -- which member it is
 abbrev pub number_of : {T : Type 0} → Mark T → ℕ
-number_of (M0 own) = 0
-number_of (M1 own) = 1
-number_of (M2 own) = 2
-number_of (M3 own) = 3
-number_of (M4 own) = 4
-number_of (M5 own) = 5
-number_of (M6 own) = 6
-number_of (M7 own) = 7
-number_of (M8 own) = 8
-number_of (M9 own) = 9
-number_of (M10 own) = 10
-number_of (M11 own) = 11
-number_of (M12 own) = 12
-number_of (M13 own) = 13
-number_of (M14 own) = 14
-number_of (M15 own) = 15
-number_of (M16 own) = 16
-number_of (M17 own) = 17
-number_of (M18 own) = 18
-number_of (M19 own) = 19
-number_of (M20 own) = 20
-number_of (M21 own) = 21
-number_of (M22 own) = 22
-number_of (M23 own) = 23
+number_of (Member0 own) = 0
+number_of (Member1 own) = 1
+number_of (Member2 own) = 2
+number_of (Member3 own) = 3
+number_of (Member4 own) = 4
+number_of (Member5 own) = 5
+number_of (Member6 own) = 6
+number_of (Member7 own) = 7
+number_of (Member8 own) = 8
+number_of (Member9 own) = 9
+number_of (Member10 own) = 10
+number_of (Member11 own) = 11
+number_of (Member12 own) = 12
+number_of (Member13 own) = 13
+number_of (Member14 own) = 14
+number_of (Member15 own) = 15
+number_of (Member16 own) = 16
+number_of (Member17 own) = 17
+number_of (Member18 own) = 18
+number_of (Member19 own) = 19
+number_of (Member20 own) = 20
+number_of (Member21 own) = 21
+number_of (Member22 own) = 22
+number_of (Member23 own) = 23
 
 -- the number of its entries, as the member has it
 abbrev pub amount_of : {T : Type 0} → Mark T → ℕ
-amount_of (M0 own) = own.share.amount
-amount_of (M1 own) = own.share.amount
-amount_of (M2 own) = own.share.amount
-amount_of (M3 own) = own.share.amount
-amount_of (M4 own) = own.share.amount
-amount_of (M5 own) = own.share.amount
-amount_of (M6 own) = own.share.amount
-amount_of (M7 own) = own.share.amount
-amount_of (M8 own) = own.share.amount
-amount_of (M9 own) = own.share.amount
-amount_of (M10 own) = own.share.amount
-amount_of (M11 own) = own.share.amount
-amount_of (M12 own) = own.share.amount
-amount_of (M13 own) = own.share.amount
-amount_of (M14 own) = own.share.amount
-amount_of (M15 own) = own.share.amount
-amount_of (M16 own) = own.share.amount
-amount_of (M17 own) = own.share.amount
-amount_of (M18 own) = own.share.amount
-amount_of (M19 own) = own.share.amount
-amount_of (M20 own) = own.share.amount
-amount_of (M21 own) = own.share.amount
-amount_of (M22 own) = own.share.amount
-amount_of (M23 own) = own.share.amount
+amount_of (Member0 own) = own.share.amount
+amount_of (Member1 own) = own.share.amount
+amount_of (Member2 own) = own.share.amount
+amount_of (Member3 own) = own.share.amount
+amount_of (Member4 own) = own.share.amount
+amount_of (Member5 own) = own.share.amount
+amount_of (Member6 own) = own.share.amount
+amount_of (Member7 own) = own.share.amount
+amount_of (Member8 own) = own.share.amount
+amount_of (Member9 own) = own.share.amount
+amount_of (Member10 own) = own.share.amount
+amount_of (Member11 own) = own.share.amount
+amount_of (Member12 own) = own.share.amount
+amount_of (Member13 own) = own.share.amount
+amount_of (Member14 own) = own.share.amount
+amount_of (Member15 own) = own.share.amount
+amount_of (Member16 own) = own.share.amount
+amount_of (Member17 own) = own.share.amount
+amount_of (Member18 own) = own.share.amount
+amount_of (Member19 own) = own.share.amount
+amount_of (Member20 own) = own.share.amount
+amount_of (Member21 own) = own.share.amount
+amount_of (Member22 own) = own.share.amount
+amount_of (Member23 own) = own.share.amount
 
 -- the number of each member's entries, as the journal has it
 abbrev pub totals : {T : Type 0} → Books T → List ℕ
