@@ -73,6 +73,7 @@ impl Codes {
     /// Makes a call of level 13 (docs/levels.md, "Calls"): what it leaves and answers are those of `act13`. A refusal
     /// is an answer, and changes nothing; so is `Done` to a call of another level. `Memory` is the one fault,
     /// of `CodeMake` alone, and the level is then as it was.
+    #[inline(never)]
     pub fn act(&mut self, _alloc: Global, call: &LevelCall) -> Result<LevelAnswer, LevelFault>
         requires { Can13 self.old call.now }
         ensures state { OnOk result (self.new ≡ (act13 self.old call.now).0) }

@@ -51,6 +51,7 @@ impl Procs {
     /// Makes a call of level 12 (docs/levels.md, "Calls"): what it leaves and answers are those of `act12`. A refusal
     /// is an answer, and changes nothing. It answers as `act12` does also where the call's condition does not hold:
     /// calls of other levels do nothing here and answer `Done`. There is no fault, and it takes no memory.
+    #[inline(never)]
     pub fn act(&mut self, _alloc: Global, call: &LevelCall) -> Result<LevelAnswer, LevelFault>
         ensures made { IfOk result (λ answer. (self.new, answer) ≡ act12 self.old call.now) }
         ensures always { IsOk result }

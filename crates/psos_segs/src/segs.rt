@@ -85,25 +85,54 @@ impl Segs {
                 off,
                 need,
                 word,
-            } => Ok(self.locate(cap, off, need, word)),
-            LevelCall::SlotOf { uid } => Ok(LevelAnswer::Slot(self.slot_of(uid))),
+            } => self.located(cap, off, need, word),
+            LevelCall::SlotOf { uid } => slot(self.slot_of(uid)),
             LevelCall::SegMake {
                 uid,
                 slot,
                 len,
                 guard,
             } => done(self.make(uid, SegRow { slot, len, guard })),
-            LevelCall::SegGone { uid } => Ok(LevelAnswer::Slot(self.remove(uid))),
-            LevelCall::WinRoom { cap, base, len } => Ok(self.room(cap, base, len)),
+            LevelCall::SegGone { uid } => slot(self.remove(uid)),
+            LevelCall::WinRoom { cap, base, len } => self.roomed(cap, base, len),
             LevelCall::WinMake {
                 uid,
                 cap,
                 base,
                 len,
             } => done(self.make_window(uid, cap, base, len)),
-            LevelCall::Length { cap } => Ok(self.length(cap)),
-            _ => Ok(LevelAnswer::Done),
+            LevelCall::Length { cap } => self.measured(cap),
+            _ => done(Ok(())),
         }
+    }
+
+    // Each answer is made in a function of its own: it has room for a page, which is filled where the function begins,
+    // and a call of `act` pays for its own answer alone.
+    #[inline(never)]
+    fn located(
+        &self,
+        cap: Cap,
+        off: u64,
+        need: Right,
+        word: Option<Word>,
+    ) -> Result<LevelAnswer, LevelFault>
+        ensures { result ≡ Ok (locate self.now cap off need word) }
+    {
+        Ok(self.locate(cap, off, need, word))
+    }
+
+    #[inline(never)]
+    fn roomed(&self, cap: Cap, base: u64, len: u64) -> Result<LevelAnswer, LevelFault>
+        ensures { result ≡ Ok (win_room self.now cap base len) }
+    {
+        Ok(self.room(cap, base, len))
+    }
+
+    #[inline(never)]
+    fn measured(&self, cap: Cap) -> Result<LevelAnswer, LevelFault>
+        ensures { result ≡ Ok (length_of self.now cap) }
+    {
+        Ok(self.length(cap))
     }
 
     // Whether this is neither a live segment nor a live window.
@@ -149,8 +178,6 @@ impl Segs {
     }
 
     // Where a word lies, or why the capability does not lead there.
-    // It stands apart, since an answer has room for a page, and the locals of `act` are filled at each call.
-    #[inline(never)]
     fn locate(&self, cap: Cap, off: u64, need: Right, word: Option<Word>) -> LevelAnswer
         ensures { result ≡ locate self.now cap off need word }
     {
@@ -196,7 +223,6 @@ impl Segs {
     }
 
     // Whether a window may be made, or why not.
-    #[inline(never)]
     fn room(&self, cap: Cap, base: u64, len: u64) -> LevelAnswer
         ensures { result ≡ win_room self.now cap base len }
     {
@@ -235,7 +261,6 @@ impl Segs {
     }
 
     // How many words the capability leads to.
-    #[inline(never)]
     fn length(&self, cap: Cap) -> LevelAnswer
         ensures { result ≡ length_of self.now cap }
     {
@@ -256,7 +281,16 @@ fn is_in_bounds(slot: u16, len: u16) -> bool
     (slot as usize) < limits::SLOTS && 1 <= len && (len as usize) <= limits::MOST_WORDS
 }
 
+// The answer that names a slot.
+#[inline(never)]
+fn slot(number: u16) -> Result<LevelAnswer, LevelFault>
+    ensures { result ≡ Ok (LevelAnswer.Slot number) }
+{
+    Ok(LevelAnswer::Slot(number))
+}
+
 // The answer where a row was added, or the fault where there was no memory for it.
+#[inline(never)]
 fn done(added: Result<(), AllocError>) -> Result<LevelAnswer, LevelFault>
     ensures ok { OnOk added (result ≡ Ok LevelAnswer.Done) }
     ensures err { OnErr added (result ≡ Err (LevelFault.Memory alloc_error)) }
