@@ -11,6 +11,7 @@ pub mod OneMore
 pub mod DraftSteps
 pub mod Sound
 pub mod Walks
+pub mod Spelled
 pub mod Complete
 pub mod Outcome
 pub mod LeastLine
