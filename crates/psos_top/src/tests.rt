@@ -1,13 +1,24 @@
 // Worked cases, from the words and bytes that go in to the bytes that come out.
 ghost use Rattle.std.specs.Prelude.{◌≤◌};
 
-use crate::psos_main;
+use crate::{Outcome, psos_main};
 use psos_io::{MemSink, MemSource, NoGate, NoStore, Sink, Source, StdSink, StdSource};
 use std::alloc::Global;
 use std::process::Abort;
 use std::sync::Wait;
 use std::test::Fail;
 use std::thread::Threads;
+
+// Runs the words. The contract of the program is looked at here alone.
+fn run<R: Threads + Wait + Sync>(
+    rt: &R,
+    alloc: Global,
+    words: &[String],
+    input: &mut MemSource,
+    output: &mut MemSink,
+) -> Outcome<NoStore> {
+    psos_main(rt, alloc, words, input, output, NoStore::new(), &NoGate)
+}
 
 // Runs the words on an input that is given and taken so many bytes at a time.
 fn expect<R: Abort + Threads + Wait + Sync>(
@@ -28,15 +39,7 @@ fn expect<R: Abort + Threads + Wait + Sync>(
     let mut input = MemSource::new(script.to_vec(alloc)?, most, Vec::new(alloc));
     let mut output = MemSink::new(most, Vec::new(alloc));
     output.reserve(alloc, 1000)?;
-    let outcome = psos_main(
-        rt,
-        alloc,
-        &line,
-        &mut input,
-        &mut output,
-        NoStore::new(),
-        &NoGate,
-    );
+    let outcome = run(rt, alloc, &line, &mut input, &mut output);
     assert_eq!(rt; output.bytes(), text);
     assert_eq!(rt; outcome.status, status);
     Ok(())
@@ -198,15 +201,7 @@ fn a_read_fails(rt: HostRuntime) -> Result<(), Fail> {
         let mut input = MemSource::new(script.clone()?, 1, vec![in alloc; k]?);
         let mut output = MemSink::new(4, Vec::new(alloc));
         output.reserve(alloc, 1000)?;
-        let outcome = psos_main(
-            &rt,
-            alloc,
-            &words,
-            &mut input,
-            &mut output,
-            NoStore::new(),
-            &NoGate,
-        );
+        let outcome = run(&rt, alloc, &words, &mut input, &mut output);
         if k == 21 {
             assert_eq!(rt; outcome.status, 0);
             assert_eq!(rt; input.faults(), 0);
@@ -233,15 +228,7 @@ fn a_write_fails(rt: HostRuntime) -> Result<(), Fail> {
         let mut input = MemSource::new(script.clone()?, 4, Vec::new(alloc));
         let mut output = MemSink::new(1, vec![in alloc; k]?);
         output.reserve(alloc, 1000)?;
-        let outcome = psos_main(
-            &rt,
-            alloc,
-            &words,
-            &mut input,
-            &mut output,
-            NoStore::new(),
-            &NoGate,
-        );
+        let outcome = run(&rt, alloc, &words, &mut input, &mut output);
         assert_eq!(rt; outcome.status, 4);
         assert_eq!(rt; output.bytes(), front.as_slice());
         assert_eq!(rt; outcome.levels.is_some(), true);
@@ -256,15 +243,7 @@ fn a_write_fails(rt: HostRuntime) -> Result<(), Fail> {
     let mut input = MemSource::new(script, 4, Vec::new(alloc));
     let mut output = MemSink::new(1, vec![in alloc; 38]?);
     output.reserve(alloc, 1000)?;
-    let outcome = psos_main(
-        &rt,
-        alloc,
-        &words,
-        &mut input,
-        &mut output,
-        NoStore::new(),
-        &NoGate,
-    );
+    let outcome = run(&rt, alloc, &words, &mut input, &mut output);
     assert_eq!(rt; outcome.status, 0);
     assert_eq!(rt; output.bytes(), front.as_slice());
     Ok(())
