@@ -1,7 +1,7 @@
 // Who has a request left.
-ghost use Rattle.std.specs.Prelude.{◌≡◌, ◌<◌, ℕ, false, not, length, map, IsTrue, IfSome, ◌↔◌};
+ghost use Rattle.std.specs.Prelude.{◌≡◌, ◌<◌, ◌||◌, ℕ, false, not, length, map, IsTrue, IfSome, ◌↔◌};
 ghost use Rattle.std.specs.List.{list_all};
-ghost use Rattle.psos_model.specs.Run.{phase_at, phase_of, earlier, current_phase, is_now, is_left, has_left, is_open};
+ghost use Rattle.psos_model.specs.Run.{phase_at, phase_of, earlier, current_phase, is_now, has_left, is_open};
 
 use crate::Flat;
 use psos_calls::{Private, Request, Script};
@@ -13,7 +13,7 @@ impl Flat {
         ensures { result ≡ has_left script.now self.now.users u }
     {
         match self.users.get(u) {
-            Some(me) => is_left(script, self.users.as_slice(), me),
+            Some(me) => is_left(script, me, current_phase(script, self.users.as_slice())),
             None => false,
         }
     }
@@ -22,25 +22,29 @@ impl Flat {
     pub fn finished(&self, script: &Script) -> bool
         ensures { IsTrue result ↔ ((u : ℕ) → has_left script.now self.now.users u ≡ false) }
     {
-        none_left(script, self.users.as_slice(), self.users.as_slice())
+        let users = self.users.as_slice();
+        none_left(script, users, current_phase(script, users))
     }
 }
 
 // Whether none of these users has a request left.
-fn none_left(script: &Script, users: &[Private], some: &[Private]) -> bool
-    ensures { result ≡ list_all (λ x. not (is_left script.now users.now x)) some.now }
+fn none_left(script: &Script, users: &[Private], current: Option<usize>) -> bool
+    ensures { result ≡ list_all (λ x. not (is_open x.frames || is_now (phase_of script.now x) current)) users.now }
 {
-    match some.split_first() {
-        Some((me, others)) => !is_left(script, users, me) && none_left(script, users, others),
+    match users.split_first() {
+        Some((me, others)) => {
+            !is_left(script, me, current) && none_left(script, others, current)
+        }
         None => true,
     }
 }
 
-// Whether one of the users has a request left.
-fn is_left(script: &Script, users: &[Private], me: &Private) -> bool
-    ensures { result ≡ is_left script.now users.now me.now }
+/// Whether a user has a request left, where this is the current phase of all users (docs/promises.md, "Runs"): a line
+/// of an open body, or an unanswered request of that phase. It takes no memory.
+pub fn is_left(script: &Script, me: &Private, current: Option<usize>) -> bool
+    ensures { result ≡ (is_open me.now.frames || is_now (phase_of script.now me.now) current) }
 {
-    is_open(me) || is_now(phase_of(script, me), current_phase(script, users))
+    is_open(me) || is_now(phase_of(script, me), current)
 }
 
 fn is_open(me: &Private) -> bool
@@ -58,8 +62,8 @@ fn is_now(phase: Option<usize>, current: Option<usize>) -> bool
     }
 }
 
-// The least phase in which one of these users has a request left.
-fn current_phase(script: &Script, users: &[Private]) -> Option<usize>
+/// The least phase in which one of these users has a request left (docs/promises.md, "Runs"). It takes no memory.
+pub fn current_phase(script: &Script, users: &[Private]) -> Option<usize>
     ensures { result ≡ current_phase script.now users.now }
 {
     match users.split_first() {

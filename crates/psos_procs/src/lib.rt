@@ -4,7 +4,6 @@
 mod laws;
 mod mailbox;
 mod name_space;
-mod part;
 mod procs;
 #[cfg(test)]
 mod tests;

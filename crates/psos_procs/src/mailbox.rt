@@ -3,9 +3,8 @@ ghost use Rattle.std.specs.Prelude.{◌≡◌, ◌==◌, ◌<◌, ◌≤◌, []}
 ghost use Rattle.psos_calls.specs.Locks.{part_of};
 ghost use Rattle.psos_procs.specs.Mailbox.{process_of, box_posted, box_drawn, act_box};
 
-use crate::part::part_of;
 use arrayvec::ArrayVec;
-use psos_calls::{Kind, LevelAnswer, LevelCall, Refusal, Right, Tab, limits};
+use psos_calls::{Kind, LevelAnswer, LevelCall, Refusal, Right, Tab, limits, part_of};
 use psos_caps::{Cap, Rights, Uid};
 use psos_guards::{admits, has_bit};
 use psos_words::Word;

@@ -5,8 +5,7 @@ ghost use Rattle.psos_calls.specs.Level12.{act12};
 ghost use Rattle.psos_procs.specs.Mailboxes.{boxes_of, no_words, AreMailboxes};
 
 use crate::Mailbox;
-use crate::part::part_of;
-use psos_calls::{LevelAnswer, LevelCall, LevelFault};
+use psos_calls::{LevelAnswer, LevelCall, LevelFault, part_of};
 use std::alloc::{AllocError, Global};
 use std::marker::Model;
 
