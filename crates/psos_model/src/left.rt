@@ -27,8 +27,9 @@ impl Flat {
     }
 }
 
-// Whether none of these users has a request left.
-fn none_left(script: &Script, users: &[Private], current: Option<usize>) -> bool
+/// Whether none of these users has a request left, where this is the current phase of all (docs/promises.md, "Runs").
+/// It takes no memory.
+pub fn none_left(script: &Script, users: &[Private], current: Option<usize>) -> bool
     ensures { result ≡ list_all (λ x. not (is_open x.frames || is_now (phase_of script.now x) current)) users.now }
 {
     match users.split_first() {

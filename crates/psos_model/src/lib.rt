@@ -38,7 +38,7 @@ pub use change_list::ChangeList;
 pub use directory::Directory;
 pub use flat::Flat;
 pub use laws::{next_rises_by_two, others_stay, refusals_do_nothing};
-pub use left::{current_phase, is_left};
+pub use left::{current_phase, is_left, none_left};
 pub use mailbox::Mailbox;
 pub use named::Named;
 pub use names_table::NamesTable;
