@@ -60,6 +60,11 @@ abbrev pub can_take : List LockId → List LockId → Bool
 can_take locks [] = true
 can_take locks (k ∷ ks) = fits locks k && can_take (with_lock locks k) ks
 
+-- each lock is of a later level than those that were taken before it; the last that was taken stands first
+abbrev pub AreInOrder : List LockId → Type 0
+AreInOrder [] = Unit {0}
+AreInOrder (k ∷ locks) = (are_earlier locks k ≡ true) × AreInOrder locks
+
 pub held_with : (locks : List LockId) (k : LockId) → is_held (with_lock locks k) k ≡ true
 held_with locks k = by_test (is_held locks k) refl
   where
@@ -80,7 +85,7 @@ pub record IsFalling (users : ℕ) (locks : List LockId) (plan : Plan) : Type 0 
   pub falls : Falls users locks plan
 
 -- the lock of a level other than 12
-abbrev lock_at : Level → LockId
+abbrev pub lock_at : Level → LockId
 lock_at level = record { level = level; part = 0 }
 
 -- the locks that are taken where a directory is read, or opened, or a user object is made in it

@@ -9,5 +9,7 @@ pub mod Walks
 pub mod Falling
 pub mod Phases
 pub mod Progress
+pub mod Ended
 pub mod Able
+pub mod Measured
 pub mod Turns

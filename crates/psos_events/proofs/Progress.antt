@@ -33,15 +33,16 @@ use Rattle.psos_events.proofs.Traces.{step_of, followed_none, followed_more}
 use Rattle.psos_events.proofs.Holders.{IsSet, by_set}
 use Rattle.psos_events.proofs.Moves.{IsAsking, by_event}
 use Rattle.psos_events.proofs.Kept.{HasDone, set_at, below, same_trace, nothing_held, nothing_open, nothing_at, begins, event_keeps, stands_now}
-use Rattle.psos_events.proofs.Falling.{IsFalling, plan_falls, falls_later, falls_taken, falls_called}
+use Rattle.psos_events.proofs.Falling.{AreInOrder, IsFalling, plan_falls, falls_later, falls_taken, falls_called}
 use Rattle.psos_events.proofs.Phases.{left_stays}
 
 -- ---- what no event breaks
 
--- who holds a lock has a request left, and what is left of its plan falls
-record CanGoOn (s : Script) (c : CoreState) : Type 0 where
-  holders : (u : ℕ) (k : LockId) → is_held (locks_of c u) k ≡ true → has_left s c.users u ≡ true
-  falling : (u : ℕ) (x : User) (request : Request) → slice_get c.users u ≡ Some x → next_request s x ≡ Some request → IsFalling (length s.users) (locks_of c u) (followed (plan_of x request) (trace_of c u))
+-- who holds a lock has a request left, its locks were taken in the falling order, and what is left of its plan falls
+pub record CanGoOn (s : Script) (c : CoreState) : Type 0 where
+  pub holders : (u : ℕ) (k : LockId) → is_held (locks_of c u) k ≡ true → has_left s c.users u ≡ true
+  pub in_order : (u : ℕ) → AreInOrder (locks_of c u)
+  pub falling : (u : ℕ) (x : User) (request : Request) → slice_get c.users u ≡ Some x → next_request s x ≡ Some request → IsFalling (length s.users) (locks_of c u) (followed (plan_of x request) (trace_of c u))
 
 -- what is left before a call is its whole plan
 falls_first : (users : ℕ) (x : User) (request : Request) → IsFalling users [] (followed (plan_of x request) [])
@@ -50,6 +51,7 @@ falls_first users x request = subst (IsFalling users []) (sym (followed_none (pl
 at_start : (s : Script) (y : System) → CanGoOn s (core_of y)
 at_start s y = record {
   holders = λ u k e. absurd (true≢false (sym e ∙ ap (λ (locks : List LockId). is_held locks k) (nothing_at (length y.users) u)));
+  in_order = λ u. subst (λ (locks : List LockId). AreInOrder locks) (sym (nothing_at (length y.users) u)) tt;
   falling = λ u x request here asks.
       subst (λ (locks : List LockId). IsFalling (length s.users) locks (followed (plan_of x request) (trace_of (core_of y) u))) (sym (nothing_at (length y.users) u))
       (subst (λ (trace : List Step). IsFalling (length s.users) [] (followed (plan_of x request) trace)) (sym (nothing_at (length y.users) u)) (falls_first (length s.users) x request));
@@ -67,8 +69,10 @@ module _ (s : Script) (y : System) (f : Flat) (start : IsCoreStart s y f) (c : C
         let taken : IsSet (λ v. locks_of c v) (λ v. locks_of (happened s c u (Take k)) v) u (k ∷ locks_of c u) =
         set_at c.held u (k ∷ locks_of c u) [] (subst (λ (n : ℕ). u < n) (sym h.held_all) (below s y f start c h u x request is)) in
         let mine : IsFalling n (k ∷ locks_of c u) (followed (plan_of x request) (trace_of c u)) = subst (IsFalling n (k ∷ locks_of c u)) (sym next) (falls_taken falls_now other) in
+        let ordered : AreInOrder (k ∷ locks_of c u) = (falls_later falls_now other, g.in_order u) in
         record {
           holders = by_set (λ v locks. (j : LockId) → is_held locks j ≡ true → has_left s c.users v ≡ true) taken (λ j e. is.left) (λ v apart j e. g.holders v j e);
+          in_order = by_set (λ v locks. AreInOrder locks) taken ordered (λ v apart. g.in_order v);
           falling = by_set (λ v locks. (z : User) (r : Request) → slice_get c.users v ≡ Some z → next_request s z ≡ Some r → IsFalling n locks (followed (plan_of z r) (trace_of c v))) taken
               (same_trace s y f start c h u x request is (λ z r. IsFalling n (k ∷ locks_of c u) (followed (plan_of z r) (trace_of c u))) mine) (λ v apart. g.falling v);
         }
@@ -83,6 +87,7 @@ module _ (s : Script) (y : System) (f : Flat) (start : IsCoreStart s y f) (c : C
         subst (IsFalling n (locks_of c u)) (sym (followed_more (plan_of x request) (trace_of c u) call go t next)) (falls_called falls_now held t.answer) in
         record {
           holders = g.holders;
+          in_order = g.in_order;
           falling = by_set (λ v steps. (z : User) (r : Request) → slice_get c.users v ≡ Some z → next_request s z ≡ Some r → IsFalling n (locks_of c v) (followed (plan_of z r) steps)) made
               (same_trace s y f start c h u x request is (λ z r. IsFalling n (locks_of c u) (followed (plan_of z r) (trace_of c u ++ t ∷ []))) mine) (λ v apart. g.falling v);
         }
@@ -101,6 +106,7 @@ module _ (s : Script) (y : System) (f : Flat) (start : IsCoreStart s y f) (c : C
     closed_goes_on = record {
       holders = by_set (λ v locks. (j : LockId) → is_held locks j ≡ true → has_left s left_over.users v ≡ true) held_none
           (λ j e. absurd (true≢false (sym e))) (λ v apart j e. left_stays s c.users u x is.here effect v apart (g.holders v j e));
+      in_order = by_set (λ v locks. AreInOrder locks) held_none tt (λ v apart. g.in_order v);
       falling = by_set (λ v steps. (z : User) (r : Request) → slice_get left_over.users v ≡ Some z → next_request s z ≡ Some r → IsFalling (length s.users) (locks_of left_over v) (followed (plan_of z r) steps)) open_none
           (λ z r here asks. subst (λ (locks : List LockId). IsFalling (length s.users) locks (followed (plan_of z r) [])) (sym held_none.here) (falls_first (length s.users) z r))
           (λ v apart z r here asks. subst (λ (locks : List LockId). IsFalling (length s.users) locks (followed (plan_of z r) (trace_of c v))) (sym (held_none.others v apart))
@@ -119,16 +125,16 @@ event_goes_on s y f start c h g u = by_event s c u (λ o. CanGoOn s (if_there o 
 
 -- ---- who has a request left has an event
 
-record Asks (s : Script) (c : CoreState) (u : ℕ) : Type 0 where
-  user : User
-  request : Request
-  is : IsAsking s c u user request
+pub record Asks (s : Script) (c : CoreState) (u : ℕ) : Type 0 where
+  pub user : User
+  pub request : Request
+  pub is : IsAsking s c u user request
 
 asks_in : (s : Script) (users : List User) (x : User) (frames : List Frame) → x.frames ≡ frames → HasLine s frames → is_left s users x ≡ true → (r : Request) × (next_in s x frames ≡ Some r)
 asks_in s users x [] none line left = pick (requests_of (user_script s x.number)) x.answered (left_within s users x none left)
 asks_in s users x (q ∷ outer) some line left = pick (body_of s q.label) q.line line
 
-asks_now : (s : Script) (y : System) (f : Flat) → IsCoreStart s y f → (c : CoreState) → HasDone s y f c → (u : ℕ) → has_left s c.users u ≡ true → Asks s c u
+pub asks_now : (s : Script) (y : System) (f : Flat) → IsCoreStart s y f → (c : CoreState) → HasDone s y f c → (u : ℕ) → has_left s c.users u ≡ true → Asks s c u
 asks_now s y f start c h u left = by_user (slice_get c.users u) refl
   where
     by_user : (o : Option User) → slice_get c.users u ≡ o → Asks s c u
@@ -207,17 +213,21 @@ module _ (s : Script) (y : System) (f : Flat) (start : IsCoreStart s y f) (c : C
 
 -- ---- after any events
 
-record StillGoes (s : Script) (y : System) (f : Flat) (c : CoreState) : Type 0 where
-  done : HasDone s y f c
-  goes : CanGoOn s c
+pub record StillGoes (s : Script) (y : System) (f : Flat) (c : CoreState) : Type 0 where
+  pub done : HasDone s y f c
+  pub goes : CanGoOn s c
 
 still_goes : (s : Script) (y : System) (f : Flat) → IsCoreStart s y f → (us : List ℕ) (c : CoreState) → StillGoes s y f c → AreEnabled s c us → StillGoes s y f (core_after s c us)
 still_goes s y f start [] c h may = h
 still_goes s y f start (u ∷ us) c h may =
     still_goes s y f start us (core_step s c u) (record { done = event_keeps s y f start c h.done u may.0; goes = event_goes_on s y f start c h.done h.goes u }) may.1
 
+-- from a start
+pub from_start : (s : Script) (y : System) (f : Flat) (us : List ℕ) → IsCoreStart s y f → AreEnabled s (core_of y) us → StillGoes s y f (core_after s (core_of y) us)
+from_start s y f us start may = still_goes s y f start us (core_of y) (record { done = begins s y f start; goes = at_start s y }) may
+
 pub never_stuck : NeverStuck
 never_stuck s y f us start may u left =
-    let h = still_goes s y f start us (core_of y) (record { done = begins s y f start; goes = at_start s y }) may in
+    let h = from_start s y f us start may in
     let one = some_enabled s y f start (core_after s (core_of y) us) h.done h.goes u left in
     (one.user, one.may)

@@ -1,5 +1,5 @@
 -- An open trace depends only on what lies under the locks of its calls.
-use Rattle.std.proofs.Common.{◌≡◌, ℕ, ◌<◌, Bool, true, false, List, [], ◌∷◌, ◌++◌, refl, sym, ap, ◌∙◌, subst}
+use Rattle.std.proofs.Common.{◌≡◌, ℕ, ◌<◌, ◌≤◌, Bool, true, false, List, [], ◌∷◌, ◌++◌, length, refl, sym, ap, ◌∙◌, subst, arith}
 use Rattle.std.proofs.lemmas.Bool.{true≢false, or_right}
 use Rattle.psos_calls.specs.declared.lock_id.LockId.{LockId}
 use Rattle.psos_calls.specs.declared.step.Step.{Step}
@@ -151,3 +151,9 @@ trace_whole (Ask c next) l (t ∷ trace) reply effect e is =
     let rest = trace_whole (next (act l c).1) (act l c).0 trace reply effect left is.1 in
     ap (λ (r : PlanRun). (let q : PlanRun = record r { calls = (level_of c, c) ∷ r.calls } in q)) rest
     ∙ ap (λ (q : Step). (let r : PlanRun = record { levels = traced (act l q.call).0 trace; calls = (q.level, q.call) ∷ calls_in trace; reply = reply; effect = effect } in r)) (sym is.0)
+
+-- it has no more calls than that run
+pub trace_within : (plan : Plan) (l : Levels) (trace : List Step) → IsTraceOf plan l trace → length trace ≤ length (run_plan plan l).calls
+trace_within plan l [] is = omega arith
+trace_within (Close reply effect) l (t ∷ trace) is = absurd is
+trace_within (Ask call go) l (t ∷ trace) is = omega (arith, trace_within (go (act l call).1) (act l call).0 trace is.1)

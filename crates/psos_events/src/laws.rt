@@ -1,7 +1,7 @@
 // Laws of events.
 ghost use Rattle.psos_model.specs.Laws.{OneTurnsOrder};
 ghost use Rattle.psos_model.specs.Serial.{EventsAreSerial, NeverStuck};
-ghost use Rattle.psos_events.specs.Events.{BootIsCoreStart, EventsCommit, EventsCanHappen};
+ghost use Rattle.psos_events.specs.Events.{BootIsCoreStart, EventsCommit, EventsCanHappen, EventsGoOn, EventsEnd};
 
 /// After any enabled events from a start, what the core has done is the replay of the requests that closed, one after
 /// another, and the order of their closes is legal (docs/levels.md, "Locks").
@@ -26,10 +26,22 @@ pub fn events_commit()
     ensures { EventsCommit }
 {}
 
-/// After any enabled events from a start, each event can happen: a call that is made next meets its condition, and
-/// where a request closes next, its user's part can be settled (docs/levels.md, "Calls").
+/// After any enabled events from a start, each event can happen: a call that is made next meets its condition and has
+/// room in its trace, and where a request closes next, its user's part can be settled (docs/levels.md, "Calls").
 pub fn events_can_happen()
     ensures { EventsCanHappen }
+{}
+
+/// After any enabled events from a start, each enabled event takes the core further, and there is a bound on how far it
+/// goes: so events come to an end (docs/levels.md, "Locks").
+pub fn events_go_on()
+    ensures { EventsGoOn }
+{}
+
+/// After any enabled events from a start, where nobody has a request left, the core has the levels and the users' own
+/// parts that are committed (docs/levels.md, "Locks").
+pub fn events_end()
+    ensures { EventsEnd }
 {}
 
 /// A seed has one order of turns at most (docs/program.md, "Turns").

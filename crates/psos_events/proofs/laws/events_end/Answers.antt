@@ -1,0 +1,5 @@
+use Rattle.psos_events.proofs.Ended as ended
+use Rattle.psos_events.proofs.laws.events_end.Goals as goal
+
+pub returns : goal.returns
+returns c = ended.events_end
