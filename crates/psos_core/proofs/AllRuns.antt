@@ -20,7 +20,8 @@ use Rattle.psos_laws.proofs.SharedSound.{answers_kept}
 use Rattle.psos_laws.proofs.OrdersEnd.{orders_end}
 use Rattle.psos_agree.proofs.Stepping.{step_agrees}
 use Rattle.psos_agree.proofs.Lengths.{plans_are_short}
-use Rattle.psos_core.specs.Serving.{Starts, RunStands}
+use Rattle.psos_model.specs.Serial.{IsCoreStart}
+use Rattle.psos_core.specs.Serving.{RunStands}
 
 -- ---- one request
 
@@ -70,13 +71,13 @@ follows s well (u ∷ us) y f h sound room =
       calls = omega (arith, rest.calls, step_few s y f u h sound, sum_by-cons (λ (e : Entry). length e.steps) entry others);
     }
 
-after_order : (s : Script) (y : System) (f : Flat) (order : List ℕ) → Starts s y f → IsLegalFrom s f order → Follows s y f order
+after_order : (s : Script) (y : System) (f : Flat) (order : List ℕ) → IsCoreStart s y f → IsLegalFrom s f order → Follows s y f order
 after_order s y f order start legal =
     follows s start.well_formed order y f start.stands start.start.sound (omega (arith, start.start.next, orders_end s f order start.well_formed start.start legal))
 
 -- every legal order from a start
-pub runs_stand : (s : Script) (y : System) (f : Flat) (order : List ℕ) → Starts s y f → IsLegalFrom s f order → RunStands s y f order
+pub runs_stand : (s : Script) (y : System) (f : Flat) (order : List ℕ) → IsCoreStart s y f → IsLegalFrom s f order → RunStands s y f order
 runs_stand s y f order start legal = (after_order s y f order start legal).stands
 
-pub runs_few : (s : Script) (y : System) (f : Flat) (order : List ℕ) → Starts s y f → IsLegalFrom s f order → calls_of (entries_from s y order) ≤ 44 * length order
+pub runs_few : (s : Script) (y : System) (f : Flat) (order : List ℕ) → IsCoreStart s y f → IsLegalFrom s f order → calls_of (entries_from s y order) ≤ 44 * length order
 runs_few s y f order start legal = (after_order s y f order start legal).calls

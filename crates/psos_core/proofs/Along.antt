@@ -23,7 +23,8 @@ use Rattle.psos_laws.proofs.UsersStep.{can_step}
 use Rattle.psos_laws.proofs.OrdersEnd.{orders_end}
 use Rattle.psos_laws.proofs.OrdersRun.{AreGoing, turn, turn_going, start_going}
 use Rattle.psos_core.specs.UnderWay.{phases_most, asked_before, due, IsPast, IsAt, HasServed}
-use Rattle.psos_core.specs.Serving.{Starts, Asks, IsServed, IsRunFrom, IsWholeRun}
+use Rattle.psos_model.specs.Serial.{IsCoreStart}
+use Rattle.psos_core.specs.Serving.{Asks, IsServed, IsRunFrom, IsWholeRun}
 use Rattle.psos_core.proofs.Requests.{step_is}
 use Rattle.psos_core.proofs.Orders.{replay_from-more, entries_from-more, run_from-more, serial_more, serial_legal, order_of-more, order_length}
 use Rattle.psos_core.proofs.AllRuns.{runs_stand, runs_few}
@@ -31,7 +32,7 @@ use Rattle.psos_core.proofs.Phases.{asked_all}
 use Rattle.psos_core.proofs.Standing.{due_some, due_none, due_phase, past_phase, goes_within, is_first, nobody_left, at_first, at_more, at_user, at_phase}
 
 -- after a legal order all users are on their way
-going_after : (s : Script) (y : System) (f : Flat) (order : List ℕ) → Starts s y f → IsLegalFrom s f order → AreGoing s (run_from s f order).users
+going_after : (s : Script) (y : System) (f : Flat) (order : List ℕ) → IsCoreStart s y f → IsLegalFrom s f order → AreGoing s (run_from s f order).users
 going_after s y f order start legal = by_order order f (start_going s f start.start) legal
   where
     by_order : (order : List ℕ) (f : Flat) → AreGoing s f.users → IsLegalFrom s f order → AreGoing s (run_from s f order).users
@@ -44,7 +45,7 @@ next_after s [] f = omega arith
 next_after s (u ∷ us) f = omega (arith, next_after s us (answer s f u).0, at_most_two s f u)
 
 -- what holds wherever a serial run has come
-module _ (s : Script) (y : System) (f : Flat) (start : Starts s y f) (now : System) (entries : List Entry) (p u : ℕ) (h : HasServed s y f now entries p u) where
+module _ (s : Script) (y : System) (f : Flat) (start : IsCoreStart s y f) (now : System) (entries : List Entry) (p u : ℕ) (h : HasServed s y f now entries p u) where
   abbrev order : List ℕ
   order = order_of entries
 
@@ -183,7 +184,7 @@ module _ (s : Script) (y : System) (f : Flat) (start : Starts s y f) (now : Syst
 
 -- ---- the start, and the end
 
-pub at_start : (s : Script) (y : System) (f : Flat) (now : System) → Starts s y f → now ≡ y → HasServed s y f now [] 0 0
+pub at_start : (s : Script) (y : System) (f : Flat) (now : System) → IsCoreStart s y f → now ≡ y → HasServed s y f now [] 0 0
 at_start s y f now h e = record {
   replayed = e;
   recorded = refl;
@@ -191,7 +192,7 @@ at_start s y f now h e = record {
   place = subst (λ (xs : List User). IsAt s xs 0 0) (sym (ap (λ (z : System). z.users) e ∙ h.stands.users)) (at_first s f.users (λ u x there. (h.start.users u x there).frames));
 }
 
-pub at_end : (s : Script) (y : System) (f : Flat) (now : System) (entries : List Entry) (p : ℕ) → Starts s y f → p ≡ phases_most s.users → HasServed s y f now entries p 0 → IsRunFrom s y f entries now
+pub at_end : (s : Script) (y : System) (f : Flat) (now : System) (entries : List Entry) (p : ℕ) → IsCoreStart s y f → p ≡ phases_most s.users → HasServed s y f now entries p 0 → IsRunFrom s y f (IsSerialFrom s f) entries now
 at_end s y f now entries p start all h =
     let order = order_of entries in
     let legal = serial_legal s order f h.serial in
@@ -202,18 +203,18 @@ at_end s y f now entries p start all h =
       over = λ u. ap (λ (us : List User). has_left s us u) (sym stands.users) ∙ nobody_left s now.users p (omega (arith, all)) h.place u;
       recorded = h.recorded;
       answered = ap (map answered_of) h.recorded ∙ ran.answered;
-      serial = h.serial;
+      ordered = h.serial;
       few = omega (arith, ap calls_of h.recorded, runs_few s y f order start legal, orders_end s f order start.well_formed start.start legal);
       replayed = h.replayed;
       stands = stands;
     }
 
 -- from boot
-pub whole_run : (s : Script) (now : System) (entries : List Entry) → IsRunFrom s (boot_system s) (boot s) entries now → IsWholeRun s entries now
-whole_run s now entries h = record {
+pub whole_run : (s : Script) (now : System) (InOrder : List ℕ → Type 0) (entries : List Entry) → IsRunFrom s (boot_system s) (boot s) InOrder entries now → IsWholeRun s InOrder entries now
+whole_run s now InOrder entries h = record {
   complete = record { legal = h.legal; over = h.over };
   faithful = record { replayed = h.recorded; answered = h.answered };
-  serial = h.serial;
+  ordered = h.ordered;
   few = h.few;
   replayed = h.replayed;
   stands = h.stands;

@@ -10,3 +10,8 @@ pub mod Served
 pub mod FromBoot
 pub mod Booted
 pub mod AllRuns
+pub mod Stepping
+pub mod Reached
+pub mod Drawn
+pub mod Begun
+pub mod Moved

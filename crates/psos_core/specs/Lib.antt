@@ -4,3 +4,4 @@ pub mod Serving
 pub mod UnderWay
 pub mod Parts
 pub mod Booting
+pub mod Events

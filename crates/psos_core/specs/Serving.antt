@@ -15,20 +15,13 @@ use Rattle.psos_model.specs.Boot.{boot}
 use Rattle.psos_model.specs.Run.{has_left, run_from, answers_from, run, IsLegalFrom, IsComplete}
 use Rattle.psos_model.specs.Replay.{System, replay_step, replay_from, replay, entries_from, order_of, answered_of, AreFaithful}
 use Rattle.psos_model.specs.Output.{calls_of}
-use Rattle.psos_model.specs.SerialOrder.{IsSerialFrom}
-use Rattle.psos_model.specs.Sound.{IsSound, IsStart}
+use Rattle.psos_model.specs.Sound.{IsSound}
 use Rattle.psos_model.specs.StandsFor.{StandsFor}
 
 -- where a run starts: the levels with the users' own parts, and the flat state that they stand for
 pub record Start : Type 0 where
   pub system : System
   pub flat : Flat
-
--- the script can run from there: the flat state is sound, no request is answered, and identifiers are left
-pub record Starts (s : Script) (y : System) (f : Flat) : Type 0 where
-  pub well_formed : IsWellFormed s
-  pub stands : StandsFor y f
-  pub start : IsStart s f
 
 -- the replay of an order stands for its run, and answers as it does
 pub record RunStands (s : Script) (y : System) (f : Flat) (order : List ℕ) : Type 0 where
@@ -67,22 +60,22 @@ pub record IsServed (s : Script) (old : System) (u : ℕ) (new : System) (entry 
 
 -- ---- all requests
 
--- a whole serial run from such a start: nobody has a request left, the order is serial, the entries are those of its replay and say what the run answers, and the levels stand for the flat state of the run
-pub record IsRunFrom (s : Script) (y : System) (f : Flat) (entries : List Entry) (left : System) : Type 0 where
+-- a whole run from such a start: nobody has a request left, the requests come in such an order, the entries are those of its replay and say what the run answers, and the levels stand for the flat state of the run
+pub record IsRunFrom (s : Script) (y : System) (f : Flat) (InOrder : List ℕ → Type 0) (entries : List Entry) (left : System) : Type 0 where
   pub legal : IsLegalFrom s f (order_of entries)
   pub over : (u : ℕ) → has_left s (run_from s f (order_of entries)).users u ≡ false
   pub recorded : entries ≡ entries_from s y (order_of entries)
   pub answered : map answered_of entries ≡ answers_from s f (order_of entries)
-  pub serial : IsSerialFrom s f (order_of entries)
+  pub ordered : InOrder (order_of entries)
   pub few : calls_of entries < 2 ^ 64
   pub replayed : left ≡ replay_from s y (order_of entries)
   pub stands : StandsFor left (run_from s f (order_of entries))
 
--- a whole serial run from boot: its order is complete and serial, its entries are faithful and made few level calls, the levels are those of the replay, and stand for the flat state of the run
-pub record IsWholeRun (s : Script) (entries : List Entry) (left : System) : Type 0 where
+-- a whole run from boot: its order is complete and such an order, its entries are faithful and made few level calls, the levels are those of the replay, and stand for the flat state of the run
+pub record IsWholeRun (s : Script) (InOrder : List ℕ → Type 0) (entries : List Entry) (left : System) : Type 0 where
   pub complete : IsComplete s (order_of entries)
   pub faithful : AreFaithful s entries
-  pub serial : IsSerialFrom s (boot s) (order_of entries)
+  pub ordered : InOrder (order_of entries)
   pub few : calls_of entries < 2 ^ 64
   pub replayed : left ≡ replay s (order_of entries)
   pub stands : StandsFor left (run s (order_of entries))

@@ -2,14 +2,21 @@
 #![tactic(auto)]
 
 mod boot;
+mod event;
+mod events;
 mod laws;
 mod levels;
+mod ongoing;
 mod perform;
 mod plan;
+mod planning;
 mod run;
 mod serial;
 mod serve;
+mod step;
+mod turns;
 
+pub use event::Event;
 pub use laws::runs_stand;
 pub use levels::{Levels, act_issuer};
 pub use run::{Core, Parts};

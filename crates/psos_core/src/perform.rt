@@ -35,8 +35,9 @@ fn stop_cause(fault: &LevelFault) -> StopCause
     }
 }
 
-// Makes a call, and keeps it in the trace with its answer, which is not moved, since it has room for a page.
-fn make<B: Store>(
+/// Makes a call, and keeps it in the trace with its answer, which is not moved, since it has room for a page. It stops
+/// for want of memory, or for a fault of the store, which its count shows.
+pub(crate) fn make<B: Store>(
     alloc: Global,
     levels: &mut Levels<B>,
     trace: &mut Trace,

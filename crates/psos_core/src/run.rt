@@ -1,12 +1,16 @@
 // A run of a script over the levels, on one thread.
 ghost use Rattle.std.specs.Prelude.{◌≡◌, [], None, Some, IfOk, OnOk, IfErr};
 ghost use Rattle.psos_model.specs.Flat.{Flat};
+ghost use Rattle.psos_model.specs.Serial.{IsCoreStart};
+ghost use Rattle.psos_model.specs.SerialOrder.{IsSerialFrom};
 ghost use Rattle.psos_core.specs.System.{system_of};
 ghost use Rattle.psos_core.specs.Faults.{MayStop};
-ghost use Rattle.psos_core.specs.Serving.{Start, Starts, IsRunFrom};
+ghost use Rattle.psos_core.specs.Serving.{Start, IsRunFrom};
+ghost use Rattle.psos_core.specs.Events.{IsAfter};
 ghost use Rattle.psos_core.specs.Parts.{levels_of_stop, store_of_stop};
 
 use crate::Levels;
+use crate::ongoing::Ongoing;
 use crate::serial::serve_phases;
 use psos_calls::{Entry, Script, Trace};
 use psos_io::Store;
@@ -22,8 +26,10 @@ pub struct Core<B: Store> {
     pub entries: Entries<Entry>,
     /// Why the run was stopped, if it was.
     pub stopped: Option<StopCause>,
-    // The calls of the open request; it is emptied and used again.
+    // The calls of the open request of a serial run; it is emptied and used again.
     trace: Trace,
+    // What users have under way in a run by events.
+    pub(crate) ongoing: Ongoing,
 }
 
 /// What a run leaves.
@@ -50,20 +56,25 @@ fn into_store<B: Store>(levels: Levels<B>) -> B
 
 impl<B: Store> Core<B> {
     /// A run that is to start from these levels, which stand for a sound flat state in which no request of the script
-    /// is answered, no body is open and the next identifier is at most 2^63. A refusal is for memory, which the trace of calls takes.
+    /// is answered, no body is open and the next identifier is at most 2^63. A refusal is for memory, which the
+    /// traces of calls take.
     pub fn new(alloc: Global, script: Script, levels: Levels<B>) -> Result<Core<B>, AllocError>
-        requires { (f : Flat) × Starts script (system_of levels) f }
+        requires { (f : Flat) × IsCoreStart script (system_of levels) f }
+        ensures events { IfOk result (λ core. (f : Flat) → IsCoreStart script (system_of levels) f →
+            IsAfter core (record { system = system_of levels; flat = f }) []) }
         ensures script { IfOk result (λ core. core.script ≡ script) }
         ensures levels { IfOk result (λ core. core.levels ≡ levels) }
         ensures entries { IfOk result (λ core. core.entries ≡ []) }
         ensures going { IfOk result (λ core. core.stopped ≡ None) }
     {
+        let ongoing = Ongoing::new(alloc, &script, levels.privates.as_slice())?;
         Ok(Core {
             script,
             levels,
             entries: Entries::empty(alloc),
             stopped: None,
             trace: Trace::new(alloc)?,
+            ongoing,
         })
     }
 
@@ -72,10 +83,10 @@ impl<B: Store> Core<B> {
     /// count shows; no entry is added then.
     pub fn serial(&mut self, alloc: Global) -> Result<(), StopCause>
         ghost flat: { Flat }
-        requires start { Starts self.old.script (system_of self.old.levels) flat }
+        requires start { IsCoreStart self.old.script (system_of self.old.levels) flat }
         requires fresh { self.old.entries ≡ [] }
         requires going { self.old.stopped ≡ None }
-        ensures run { OnOk result (IsRunFrom self.old.script (system_of self.old.levels) flat
+        ensures run { OnOk result (IsRunFrom self.old.script (system_of self.old.levels) flat (IsSerialFrom self.old.script flat)
             self.new.entries (system_of self.new.levels)) }
         ensures script { self.new.script ≡ self.old.script }
         ensures going { OnOk result (self.new.stopped ≡ None) }
@@ -110,6 +121,7 @@ impl<B: Store> Core<B> {
             entries,
             stopped,
             trace: _,
+            ongoing: _,
         } = self;
         let store_faults = levels.pages.store_faults();
         let (levels, store) = match stopped {

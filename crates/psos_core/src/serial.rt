@@ -2,9 +2,11 @@
 ghost use Rattle.std.specs.Prelude.{◌≡◌, ◌≤◌, ◌<◌, ◌+◌, [], length, map, sum_by, OnOk};
 ghost use Rattle.psos_calls.specs.Script.{IsWellFormed, user_script};
 ghost use Rattle.psos_model.specs.Run.{is_open};
+ghost use Rattle.psos_model.specs.Serial.{IsCoreStart};
+ghost use Rattle.psos_model.specs.SerialOrder.{IsSerialFrom};
 ghost use Rattle.psos_core.specs.System.{system_of};
 ghost use Rattle.psos_core.specs.Faults.{MayStop};
-ghost use Rattle.psos_core.specs.Serving.{Start, Starts, IsRunFrom};
+ghost use Rattle.psos_core.specs.Serving.{Start, IsRunFrom};
 ghost use Rattle.psos_core.specs.UnderWay.{phases_most, asked_before, due, HasServed};
 
 use crate::Levels;
@@ -76,7 +78,7 @@ fn serve_user<B: Store>(
     u: usize,
 ) -> Result<(), StopCause>
     ghost start: { Start }
-    requires start { Starts script.now start.system start.flat }
+    requires start { IsCoreStart script.now start.system start.flat }
     requires user { u < length script.now.users }
     requires phase { p < phases_most script.now.users }
     requires before { HasServed script.now start.system start.flat (system_of levels.old) entries.old p u }
@@ -103,7 +105,7 @@ fn serve_users<B: Store>(
     p: usize,
 ) -> Result<(), StopCause>
     ghost start: { Start }
-    requires start { Starts script.now start.system start.flat }
+    requires start { IsCoreStart script.now start.system start.flat }
     requires phase { p < phases_most script.now.users }
     requires before { HasServed script.now start.system start.flat (system_of levels.old) entries.old p 0 }
     ensures served { OnOk result (HasServed script.now start.system start.flat (system_of levels.new) entries.new (p + 1) 0) }
@@ -127,10 +129,10 @@ pub(crate) fn serve_phases<B: Store>(
     entries: &mut Entries<Entry>,
 ) -> Result<(), StopCause>
     ghost start: { Start }
-    requires start { Starts script.now start.system start.flat }
+    requires start { IsCoreStart script.now start.system start.flat }
     requires here { system_of levels.old ≡ start.system }
     requires fresh { entries.old ≡ [] }
-    ensures run { OnOk result (IsRunFrom script.now start.system start.flat entries.new (system_of levels.new)) }
+    ensures run { OnOk result (IsRunFrom script.now start.system start.flat (IsSerialFrom script.now start.flat) entries.new (system_of levels.new)) }
     ensures cause { MayStop (B.faults levels.old.pages.store) (B.faults levels.new.pages.store) result }
 {
     'phases: for p in 0..phases_of(script.users()) {

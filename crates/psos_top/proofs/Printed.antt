@@ -11,7 +11,8 @@ use Rattle.psos_calls.specs.Script.{Script}
 use Rattle.psos_model.specs.Replay.{System, order_of}
 use Rattle.psos_model.specs.Transcript.{users_lines, transcript}
 use Rattle.psos_model.specs.Output.{calls_of, done_text, printed, output}
-use Rattle.psos_core.specs.Serving.{IsWholeRun}
+use Rattle.psos_top.specs.declared.command.Command.{Command}
+use Rattle.psos_top.specs.Orders.{IsRunBy}
 use Rattle.psos_print.specs.declared.fault.PrintFault.{PrintFault}
 use Rattle.psos_print.specs.declared.fault.PrintFault.TheVariants as F
 use Rattle.psos_print.specs.Places.{entries_text}
@@ -52,22 +53,22 @@ line_begun a b c text line whole put front is =
     })
 
 -- what entries of a whole run print is the transcript of their order, and with the last line its output
-transcript_is : (s : Script) (es : List Entry) (left : System) → IsWholeRun s es left → entries_text s es ≡ transcript s (order_of es)
-transcript_is s es left run = ap (λ all. users_lines s.users 0 all) run.faithful.answered
+transcript_is : (command : Command) (s : Script) (es : List Entry) (left : System) → IsRunBy command s es left → entries_text s es ≡ transcript s (order_of es)
+transcript_is command s es left run = ap (λ all. users_lines s.users 0 all) run.faithful.answered
 
-output_is : (s : Script) (es : List Entry) (left : System) → IsWholeRun s es left → printed s es ≡ output s (order_of es)
-output_is s es left run =
+output_is : (command : Command) (s : Script) (es : List Entry) (left : System) → IsRunBy command s es left → printed s es ≡ output s (order_of es)
+output_is command s es left run =
     let many : length es ≡ length (order_of es) = sym (length-map es (λ (e : Entry). e.user)) in
-    ap (λ text. text ++ done_text (length es) (calls_of es)) (transcript_is s es left run)
+    ap (λ text. text ++ done_text (length es) (calls_of es)) (transcript_is command s es left run)
     ∙ ap (λ n. transcript s (order_of es) ++ done_text n (calls_of es)) many
     ∙ ap (λ all. transcript s (order_of es) ++ done_text (length (order_of es)) (calls_of all)) run.faithful.replayed
 
-pub ends_printed : (a b : Option (List ℕ)) (f g : ℕ) (s : Script) (es : List Entry) (left : System) (status : ℕ)
-    → IsWholeRun s es left → status ≡ 0 → Appends a b (printed s es) → f ≤ g → RunEnds a b f g s status es (Some left)
-ends_printed a b f g s es left status run is put later = record {
+pub ends_printed : (command : Command) (a b : Option (List ℕ)) (f g : ℕ) (s : Script) (es : List Entry) (left : System) (status : ℕ)
+    → IsRunBy command s es left → status ≡ 0 → Appends a b (printed s es) → f ≤ g → RunEnds command a b f g s status es (Some left)
+ends_printed command a b f g s es left status run is put later = record {
   which = inl is;
   run = λ h. run;
-  done = λ h. subst (Appends a b) (output_is s es left run) put;
+  done = λ h. subst (Appends a b) (output_is command s es left run) put;
   cut = λ h. absurd (omega (arith, is, h));
   cause = λ h. absurd (omega (arith, is, h));
   none = λ h. absurd (omega (arith, is, h));
@@ -75,26 +76,26 @@ ends_printed a b f g s es left status run is put later = record {
   later = later;
 }
 
-pub ends_cut : (a b : Option (List ℕ)) (f g : ℕ) (s : Script) (es : List Entry) (left : System) (e : PrintFault) (status : ℕ)
-    → IsWholeRun s es left → status ≡ 4 → LeavesFront a b s es e → HasReason f g e → e ≡ F.Write → f ≤ g → RunEnds a b f g s status es (Some left)
-ends_cut a b f g s es left e status run is leaves reason write later =
+pub ends_cut : (command : Command) (a b : Option (List ℕ)) (f g : ℕ) (s : Script) (es : List Entry) (left : System) (e : PrintFault) (status : ℕ)
+    → IsRunBy command s es left → status ≡ 4 → LeavesFront a b s es e → HasReason f g e → e ≡ F.Write → f ≤ g → RunEnds command a b f g s status es (Some left)
+ends_cut command a b f g s es left e status run is leaves reason write later =
     let put : AppendsFront a b (printed s es) = (let P : PrintFault → Type 0 = λ q. LeavesFront a b s es q in subst P write leaves) in
     let rose : Rose f g = (let P : PrintFault → Type 0 = λ q. HasReason f g q in subst P write reason) in
     record {
       which = inr (inl is);
       run = λ h. run;
       done = λ h. absurd (omega (arith, is, h));
-      cut = λ h. subst (AppendsFront a b) (output_is s es left run) put;
+      cut = λ h. subst (AppendsFront a b) (output_is command s es left run) put;
       cause = λ h. rose;
       none = λ h. absurd (omega (arith, is, h));
       memory = λ h. absurd (omega (arith, is, h));
       later = later;
     }
 
-pub ends_broken : (a b : Option (List ℕ)) (f g : ℕ) (s : Script) (es : List Entry) (left : System) (e : PrintFault) (status : ℕ) (entries : List Entry) (levels : Option System)
-    → IsWholeRun s es left → status ≡ 6 → LeavesFront a b s es e → (memory : (p : _) × (e ≡ F.Memory p)) → f ≤ g → entries ≡ [] → levels ≡ None
-    → RunEnds a b f g s status entries levels
-ends_broken a b f g s es left e status entries levels run is put memory later none gone =
+pub ends_broken : (command : Command) (a b : Option (List ℕ)) (f g : ℕ) (s : Script) (es : List Entry) (left : System) (e : PrintFault) (status : ℕ) (entries : List Entry) (levels : Option System)
+    → IsRunBy command s es left → status ≡ 6 → LeavesFront a b s es e → (memory : (p : _) × (e ≡ F.Memory p)) → f ≤ g → entries ≡ [] → levels ≡ None
+    → RunEnds command a b f g s status entries levels
+ends_broken command a b f g s es left e status entries levels run is put memory later none gone =
     let text : AppendsFront a b (entries_text s es) = (let P : PrintFault → Type 0 = λ q. LeavesFront a b s es q in subst P memory.1 put) in
     record {
       which = inr (inr is);
@@ -103,7 +104,7 @@ ends_broken a b f g s es left e status entries levels run is put memory later no
       cut = λ h. absurd (omega (arith, is, h));
       cause = λ h. absurd (omega (arith, is, h));
       none = λ h. record { entries-none = none; left-none = gone };
-      memory = λ h. inr (record { entries = es; left = left; run = run; text = subst (AppendsFront a b) (transcript_is s es left run) text });
+      memory = λ h. inr (record { entries = es; left = left; run = run; text = subst (AppendsFront a b) (transcript_is command s es left run) text });
       later = later;
     }
   where

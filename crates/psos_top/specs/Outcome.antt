@@ -15,7 +15,8 @@ use Rattle.psos_print.specs.Places.{entries_text}
 use Rattle.psos_script.specs.declared.cause.Cause.{Cause}
 use Rattle.psos_script.specs.Fault.{fault_of}
 use Rattle.psos_script.specs.CauseText.{cause_text}
-use Rattle.psos_core.specs.Serving.{IsWholeRun}
+use Rattle.psos_top.specs.declared.command.Command.{Command}
+use Rattle.psos_top.specs.Orders.{IsRunBy}
 
 -- line L: CAUSE
 abbrev pub fault_line : ℕ → Cause → List ℕ
@@ -50,15 +51,15 @@ pub record IsRefused (input before now : Option (List ℕ)) (faults_before fault
   pub text : Wrote before now faults_before faults_now (fault_line line cause)
 
 -- status 0: the script was read, a whole run was made, and its output was written in whole
-pub record IsPrinted (input_before input_now before now : Option (List ℕ)) (entries : List Entry) (left : Option System) (s : Script) : Type 0 where
+pub record IsPrinted (command : Command) (input_before input_now before now : Option (List ℕ)) (entries : List Entry) (left : Option System) (s : Script) : Type 0 where
   pub read : WasRead input_before input_now s
-  pub run : IsSomeAnd left (IsWholeRun s entries)
+  pub run : IsSomeAnd left (IsRunBy command s entries)
   pub text : Appends before now (output s (order_of entries))
 
 -- status 4: the script was read, a whole run was made, and a front of its output was written
-pub record IsCut (input_before input_now before now : Option (List ℕ)) (entries : List Entry) (left : Option System) (s : Script) : Type 0 where
+pub record IsCut (command : Command) (input_before input_now before now : Option (List ℕ)) (entries : List Entry) (left : Option System) (s : Script) : Type 0 where
   pub read : WasRead input_before input_now s
-  pub run : IsSomeAnd left (IsWholeRun s entries)
+  pub run : IsSomeAnd left (IsRunBy command s entries)
   pub text : AppendsFront before now (output s (order_of entries))
 
 -- no run was made
@@ -67,15 +68,15 @@ pub record IsNoRun {X : Type 0} (entries : List Entry) (left : Option X) : Type 
   pub left-none : left ≡ None
 
 -- a whole run was made, and a front of its transcript was written
-pub record IsBroken (before now : Option (List ℕ)) (s : Script) : Type 0 where
+pub record IsBroken (command : Command) (before now : Option (List ℕ)) (s : Script) : Type 0 where
   pub entries : List Entry
   pub left : System
-  pub run : IsWholeRun s entries left
+  pub run : IsRunBy command s entries left
   pub text : AppendsFront before now (transcript s (order_of entries))
 
 -- status 6: nothing was written, or the script was read, a whole run was made, and a front of its transcript was written
-abbrev pub IsUnfinished : Option (List ℕ) → Option (List ℕ) → Option (List ℕ) → Option (List ℕ) → Type 0
-IsUnfinished input_before input_now before now = Keeps before now ⊎ ((s : Script) × WasRead input_before input_now s × IsBroken before now s)
+abbrev pub IsUnfinished : Command → Option (List ℕ) → Option (List ℕ) → Option (List ℕ) → Option (List ℕ) → Type 0
+IsUnfinished command input_before input_now before now = Keeps before now ⊎ ((s : Script) × WasRead input_before input_now s × IsBroken command before now s)
 
 -- what is written of a run after a fault: a front of the transcript for want of memory, and else a front of the whole
 abbrev pub LeavesFront : Option (List ℕ) → Option (List ℕ) → Script → List Entry → PrintFault → Type 0
@@ -83,22 +84,59 @@ LeavesFront before now s entries (faults.Memory e) = AppendsFront before now (en
 LeavesFront before now s entries faults.Write = AppendsFront before now (printed s entries)
 
 -- how a run of a script ends: printed, cut, or out of memory
-pub record RunEnds (before now : Option (List ℕ)) (faults_before faults_now : ℕ) (s : Script) (status : ℕ) (entries : List Entry) (left : Option System) : Type 0 where
+pub record RunEnds (command : Command) (before now : Option (List ℕ)) (faults_before faults_now : ℕ) (s : Script) (status : ℕ) (entries : List Entry) (left : Option System) : Type 0 where
   pub which : (status ≡ 0) ⊎ (status ≡ 4) ⊎ (status ≡ 6)
-  pub run : (status ≡ 0) ⊎ (status ≡ 4) → IsSomeAnd left (IsWholeRun s entries)
+  pub run : (status ≡ 0) ⊎ (status ≡ 4) → IsSomeAnd left (IsRunBy command s entries)
   pub done : status ≡ 0 → Appends before now (output s (order_of entries))
   pub cut : status ≡ 4 → AppendsFront before now (output s (order_of entries))
   pub cause : status ≡ 4 → Rose faults_before faults_now
   pub none : status ≡ 6 → IsNoRun entries left
-  pub memory : status ≡ 6 → Keeps before now ⊎ IsBroken before now s
+  pub memory : status ≡ 6 → Keeps before now ⊎ IsBroken command before now s
   pub later : faults_before ≤ faults_now
 
-abbrev pub IsSerialStatus : ℕ → Type 0
-IsSerialStatus status = (status ≡ 0) ⊎ (status ≡ 2) ⊎ (status ≡ 3) ⊎ (status ≡ 4) ⊎ (status ≡ 6)
+-- the statuses of a command
+abbrev pub IsRunStatus : ℕ → Type 0
+IsRunStatus status = (status ≡ 0) ⊎ (status ≡ 2) ⊎ (status ≡ 3) ⊎ (status ≡ 4) ⊎ (status ≡ 6)
 
 abbrev pub IsStatus : ℕ → Type 0
-IsStatus status = (status ≡ 1) ⊎ IsSerialStatus status
+IsStatus status = (status ≡ 1) ⊎ IsRunStatus status
 
 -- the statuses without a run
 abbrev pub HasNoRun : ℕ → Type 0
 HasNoRun status = (status ≡ 1) ⊎ (status ≡ 2) ⊎ (status ≡ 3) ⊎ (status ≡ 6)
+
+-- ---- a command, from the bytes that go in to those that come out
+
+-- an input or an output before and now: its bytes, where they are known, and how many of its calls failed
+pub record Stream : Type 0 where
+  pub before : Option (List ℕ)
+  pub now : Option (List ℕ)
+  pub faults_before : ℕ
+  pub faults_now : ℕ
+
+-- what a command gives
+pub record Given : Type 0 where
+  pub status : ℕ
+  pub entries : List Entry
+  pub left : Option System
+
+-- how it ends
+pub record Ends (command : Command) (input out : Stream) (given : Given) : Type 0 where
+  -- there is no other status
+  pub which : IsRunStatus given.status
+  -- at 0, what was written is the output of the flat objects for the order that the entries record
+  pub printed : given.status ≡ 0 → (s : Script) × IsPrinted command input.before input.now out.before out.now given.entries given.left s
+  -- at 2, the bytes are no script, and their first fault was written
+  pub refused : given.status ≡ 2 → IsRefused input.before out.before out.now out.faults_before out.faults_now
+  -- at 3, the input failed
+  pub read_fault : given.status ≡ 3 → Rose input.faults_before input.faults_now
+  pub read_fault_line : given.status ≡ 3 → Wrote out.before out.now out.faults_before out.faults_now read_fault_text
+  -- at 4, the output failed
+  pub write_fault : given.status ≡ 4 → Rose out.faults_before out.faults_now
+  pub cut : given.status ≡ 4 → (s : Script) × IsCut command input.before input.now out.before out.now given.entries given.left s
+  -- at 6, a front of the transcript was written, or nothing
+  pub memory : given.status ≡ 6 → IsUnfinished command input.before input.now out.before out.now
+  -- at 2, 3 and 6 no run was made
+  pub none : HasNoRun given.status → IsNoRun given.entries given.left
+  pub input_later : input.faults_before ≤ input.faults_now
+  pub out_later : out.faults_before ≤ out.faults_now

@@ -1,18 +1,63 @@
 -- The words of the command line. States docs/program.md, "Options".
-use Rattle.std.specs.Prelude.{ℕ, ◌&&◌, if◌then◌else◌, nat_le, List, [], ◌∷◌, Option, Some, None, codes}
+use Rattle.std.specs.Prelude.{ℕ, ◌&&◌, Bool, true, false, if◌then◌else◌, nat_le, List, [], ◌∷◌, Option, Some, None, unwrap_or, codes}
+use Rattle.std.specs.Option.{option_map, option_and_then}
 use Rattle.std.specs.Str.{bytes_eq}
 use Rattle.psos_text.specs.Number.{number_of}
+use Rattle.psos_top.specs.declared.command.Command.{Command}
+use Rattle.psos_top.specs.declared.command.Command.TheVariants.{Serial, Turns}
+use Rattle.psos_top.specs.declared.words.Options.{Options}
+use Rattle.psos_top.specs.declared.words.Asked.{Asked}
 
--- 8 to 256
-abbrev pub in_range : Option ℕ → Option ℕ
-in_range None = None
-in_range (Some n) = if nat_le 8 n && nat_le n 256 then Some n else None
+-- ---- the command
 
--- the frames that the words ask for, where they have the shape: `serial` alone, or with `--frames` and a number
-abbrev pub frames_asked : List (List ℕ) → Option ℕ
-frames_asked [] = None
-frames_asked (command ∷ []) = if bytes_eq command (codes "serial") then Some 32 else None
-frames_asked (command ∷ option ∷ []) = None
-frames_asked (command ∷ option ∷ number ∷ []) =
-    if bytes_eq command (codes "serial") && bytes_eq option (codes "--frames") then in_range (number_of number) else None
-frames_asked (command ∷ option ∷ number ∷ other ∷ others) = None
+-- the command that a word names; a seed that is not given is 1
+abbrev pub command_of : List ℕ → Option Command
+command_of word =
+    if bytes_eq word (codes "serial") then Some Serial
+    else if bytes_eq word (codes "turns") then Some (Turns 1)
+    else None
+
+abbrev pub takes_seed : Command → Bool
+takes_seed Serial = false
+takes_seed (Turns seed) = true
+
+abbrev pub with_seed : Command → Option ℕ → Command
+with_seed Serial seed = Serial
+with_seed (Turns other) seed = Turns (unwrap_or seed other)
+
+-- ---- the options
+
+-- a number of frames, 8 to 256, that stands for the first time
+abbrev pub frames_in : Option ℕ → Option ℕ → Option ℕ
+frames_in None (Some n) = if nat_le 8 n && nat_le n 256 then Some n else None
+frames_in _ _ = None
+
+-- a seed of a command that takes one, for the first time
+abbrev pub seed_in : Command → Option ℕ → Option ℕ → Option ℕ
+seed_in command None (Some n) = if takes_seed command then Some n else None
+seed_in command _ _ = None
+
+-- one option more, with its number
+abbrev pub with_option : Command → Options → List ℕ → Option ℕ → Option Options
+with_option command given option number =
+    if bytes_eq option (codes "--frames") then option_map (λ (n : ℕ). record given { frames = Some n }) (frames_in given.frames number)
+    else if bytes_eq option (codes "--seed") then option_map (λ (n : ℕ). record given { seed = Some n }) (seed_in command given.seed number)
+    else None
+
+-- pairs of an option and a number, each option once at most
+abbrev pub options_in : Command → List (List ℕ) → Options → Option Options
+options_in command [] given = Some given
+options_in command (option ∷ []) given = None
+options_in command (option ∷ number ∷ others) given = option_and_then (options_in command others) (with_option command given option (number_of number))
+
+-- ---- what the words ask for
+
+-- the command with its seed, and the frames, of which there are 32 where no number is given
+abbrev pub asked_by : Command → Options → Asked
+asked_by command given = record { command = with_seed command given.seed; frames = unwrap_or given.frames 32 }
+
+-- where the words have the shape
+abbrev pub words_asked : List (List ℕ) → Option Asked
+words_asked [] = None
+words_asked (word ∷ others) =
+    option_and_then (λ (command : Command). option_map (asked_by command) (options_in command others (record { frames = None; seed = None }))) (command_of word)

@@ -4,7 +4,8 @@ ghost use Rattle.std.specs.Io.KnownBytes.{Appends, Keeps};
 ghost use Rattle.psos_model.specs.Output.{calls_of, printed};
 ghost use Rattle.psos_print.specs.Pieces.{HasReason};
 ghost use Rattle.psos_core.specs.System.{system_of};
-ghost use Rattle.psos_core.specs.Serving.{IsWholeRun};
+ghost use Rattle.psos_top.specs.Orders.{IsRunBy};
+ghost use Rattle.psos_top.specs.declared.command.Command.{Command};
 ghost use Rattle.psos_top.specs.Outcome.{fault_line, Wrote, IsNoRun, LeavesFront, RunEnds};
 
 use crate::outcome::Outcome;
@@ -122,8 +123,9 @@ pub fn finish<K: Sink, B: Store>(
     levels: Levels<B>,
     output: &mut K,
 ) -> Outcome<B>
-    requires run { IsWholeRun script.now entries (system_of levels) }
-    ensures ends { RunEnds (K.took output.old) (K.took output.new) (K.faults output.old) (K.faults output.new)
+    ghost command: { Command }
+    requires run { IsRunBy command script.now entries (system_of levels) }
+    ensures ends { RunEnds command (K.took output.old) (K.took output.new) (K.faults output.old) (K.faults output.new)
         script.now result.status result.entries (option_map (λ l. system_of l) result.levels) }
     ensures store { result.store ≡ None }
     ensures levels { IfSome result.levels (λ l. l ≡ levels) }

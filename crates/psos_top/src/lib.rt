@@ -1,15 +1,20 @@
 //! The commands of the simulated system, from the words of the command line to the bytes written.
 #![tactic(auto)]
 
+mod command;
 mod ending;
 mod outcome;
 mod program;
+mod run;
 mod serial;
+mod turns;
 mod words;
 
+pub use command::Command;
 pub use outcome::Outcome;
 pub use program::psos_main;
 pub use serial::serial_call;
+pub use turns::turns_call;
 
 #[cfg(test)]
 mod tests;

@@ -1,14 +1,15 @@
 // The program.
-ghost use Rattle.std.specs.Prelude.{◌≡◌, ◌≤◌, ◌↔◌, None, IfSome, map, string_bytes, option_map};
+ghost use Rattle.std.specs.Prelude.{◌≡◌, ◌≤◌, ◌↔◌, None, Some, IfSome, map, string_bytes, option_map};
 ghost use Rattle.psos_io.specs.Causes.{Rose};
 ghost use Rattle.psos_calls.specs.Script.{Script as Spelled};
 ghost use Rattle.psos_core.specs.System.{system_of};
-ghost use Rattle.psos_top.specs.Words.{frames_asked};
+ghost use Rattle.psos_top.specs.declared.words.Asked.{Asked};
+ghost use Rattle.psos_top.specs.Words.{words_asked};
 ghost use Rattle.psos_top.specs.Outcome.{read_fault_text, usage_text, IsRefused, IsStatus, HasNoRun, Wrote, IsPrinted, IsCut, IsUnfinished, IsNoRun};
 
 use crate::ending::stop;
 use crate::outcome::Outcome;
-use crate::serial::serial_call;
+use crate::run::run;
 use crate::words::read_words;
 use psos_io::{Gate, Sink, Source, Store};
 use std::alloc::Global;
@@ -29,12 +30,13 @@ pub fn psos_main<R: Threads + Wait + Sync, I: Source, K: Sink, B: Store + Send, 
     ensures which { IsStatus result.status }
 
     // At 1, and only there, the words have not the shape.
-    ensures usage { (result.status ≡ 1) ↔ (frames_asked (map string_bytes words.now) ≡ None) }
+    ensures usage { (result.status ≡ 1) ↔ (words_asked (map string_bytes words.now) ≡ None) }
     ensures usage_text { result.status ≡ 1 →
         Wrote (K.took output.old) (K.took output.new) (K.faults output.old) (K.faults output.new) usage_text }
 
-    // At 0, what was written is the output of the flat objects for the order that the entries record.
-    ensures printed { result.status ≡ 0 → (s : Spelled) × IsPrinted (I.left input.old) (I.left input.new)
+    // At 0, what was written is the output of the flat objects for the order that the entries record, which is the order
+    // of the command.
+    ensures printed { result.status ≡ 0 → (asked : Asked) × (words_asked (map string_bytes words.now) ≡ Some asked) × (s : Spelled) × IsPrinted asked.command (I.left input.old) (I.left input.new)
         (K.took output.old) (K.took output.new) result.entries (option_map (λ l. system_of l) result.levels) s }
 
     // At 2, the bytes are no script, and their first fault was written.
@@ -47,11 +49,11 @@ pub fn psos_main<R: Threads + Wait + Sync, I: Source, K: Sink, B: Store + Send, 
 
     // At 4, the sink failed.
     ensures write_fault { result.status ≡ 4 → Rose (K.faults output.old) (K.faults output.new) }
-    ensures cut { result.status ≡ 4 → (s : Spelled) × IsCut (I.left input.old) (I.left input.new)
+    ensures cut { result.status ≡ 4 → (asked : Asked) × (words_asked (map string_bytes words.now) ≡ Some asked) × (s : Spelled) × IsCut asked.command (I.left input.old) (I.left input.new)
         (K.took output.old) (K.took output.new) result.entries (option_map (λ l. system_of l) result.levels) s }
 
     // At 6, a front of the transcript was written, or nothing.
-    ensures memory { result.status ≡ 6 → IsUnfinished (I.left input.old) (I.left input.new)
+    ensures memory { result.status ≡ 6 → (asked : Asked) × (words_asked (map string_bytes words.now) ≡ Some asked) × IsUnfinished asked.command (I.left input.old) (I.left input.new)
         (K.took output.old) (K.took output.new) }
 
     // At 1, 2, 3 and 6 no run was made.
@@ -63,7 +65,7 @@ pub fn psos_main<R: Threads + Wait + Sync, I: Source, K: Sink, B: Store + Send, 
     ensures store_faults { IfSome result.levels (λ l. result.store_faults ≡ B.faults l.pages.store) }
     ensures store_later { B.faults store ≤ result.store_faults }
 {
-    let Some(frames) = read_words(words) else {
+    let Some(asked) = read_words(words) else {
         return stop(
             alloc,
             output,
@@ -72,5 +74,5 @@ pub fn psos_main<R: Threads + Wait + Sync, I: Source, K: Sink, B: Store + Send, 
             store,
         );
     };
-    serial_call(alloc, frames, input, output, store)
+    run(alloc, asked.command, asked.frames, input, output, store)
 }

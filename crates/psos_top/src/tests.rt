@@ -162,7 +162,11 @@ where
 fn words_that_are_built(rt: HostRuntime) -> Result<(), Fail> {
     let text = b"alice 1 @0 cap 7 ffff\ndone 1 calls 1\n".as_slice();
     expect_words(&rt, &["serial", "--frames", "8"], 0, text)?;
-    expect_words(&rt, &["serial", "--frames", "256"], 0, text)
+    expect_words(&rt, &["serial", "--frames", "256"], 0, text)?;
+    expect_words(&rt, &["turns"], 0, text)?;
+    expect_words(&rt, &["turns", "--seed", "0"], 0, text)?;
+    let both = ["turns", "--frames", "8", "--seed", "18446744073709551615"];
+    expect_words(&rt, &both, 0, text)
 }
 
 #[test]
@@ -171,7 +175,11 @@ fn words_that_are_not(rt: HostRuntime) -> Result<(), Fail> {
     expect_words(&rt, &[], 1, text)?;
     expect_words(&rt, &[""], 1, text)?;
     expect_words(&rt, &["fly"], 1, text)?;
-    expect_words(&rt, &["turns"], 1, text)?;
+    expect_words(&rt, &["run"], 1, text)?;
+    expect_words(&rt, &["turns", "--seed"], 1, text)?;
+    expect_words(&rt, &["turns", "--seed=1"], 1, text)?;
+    expect_words(&rt, &["turns", "--seed", "18446744073709551616"], 1, text)?;
+    expect_words(&rt, &["turns", "--seed", "1", "--seed", "1"], 1, text)?;
     expect_words(&rt, &["serial", "serial"], 1, text)?;
     expect_words(&rt, &["serial", "8"], 1, text)?;
     expect_words(&rt, &["serial", "--frames"], 1, text)?;
@@ -188,6 +196,26 @@ fn words_that_are_not(rt: HostRuntime) -> Result<(), Fail> {
     expect_words(&rt, &["--frames", "8", "serial"], 1, text)?;
     expect_words(&rt, &["serial", "--frames", "8", "--frames", "8"], 1, text)?;
     expect_words(&rt, &["serial", "--seed", "1"], 1, text)
+}
+
+#[test]
+fn turns_are_drawn(rt: HostRuntime) -> Result<(), Fail> {
+    let cases: [(&[u8], &[u8]); 2] = [
+        // The second user is drawn first, and the first waits for level 0.
+        (
+            b"user alice\nmint r4\nuser bob\nmint r4\n",
+            b"alice 1 @1 cap 12 ffff\nbob 1 @0 cap 11 ffff\ndone 2 calls 2\n",
+        ),
+        (
+            b"user alice\nphase\nlookup r4 r0 bob\nsend r4 r2\nuser bob\nbind r0 bob r1\nphase\nphase\nrecv r5\nrecv r6\n",
+            b"alice 1 @1 cap 7 ffff\nalice 2 @2 ok\nbob 1 @0 ok\nbob 2 @3 cap 4 ffff\nbob 3 @4 no empty\ndone 5 calls 12\n",
+        ),
+    ];
+    for (script, text) in cases {
+        let words = ["turns", "--seed", "1"].as_slice();
+        expect(&rt, rt.alloc(), 5000, words, script, 0, text)?;
+    }
+    Ok(())
 }
 
 #[test]

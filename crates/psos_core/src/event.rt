@@ -1,0 +1,12 @@
+// An event of a user.
+use psos_calls::{Level, LockId};
+
+/// What a user did in one step (docs/levels.md, "Locks"): it took a lock, called a level under a lock that it holds, or
+/// closed its request, whose entry is the one at this position. The entry is read from the run and is not given twice,
+/// so that no names are copied.
+#[derive(Clone, Copy)]
+pub enum Event {
+    Take(LockId),
+    Call(Level),
+    Close(u32),
+}

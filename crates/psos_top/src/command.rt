@@ -1,0 +1,10 @@
+// The commands.
+
+/// A command that runs a script (docs/program.md, "Commands").
+#[derive(Clone, Copy)]
+pub enum Command {
+    /// Phase by phase, and in each phase user by user.
+    Serial,
+    /// In turns, which are drawn from this seed.
+    Turns(u64),
+}

@@ -1,0 +1,137 @@
+// A command, from the bytes that go in to those that come out.
+ghost use Rattle.std.specs.Prelude.{◌≡◌, ◌≤◌, [], None, Some, OnOk, IfErr, IfSome, option_map};
+ghost use Rattle.psos_calls.specs.Script.{IsWellFormed};
+ghost use Rattle.psos_model.specs.Boot.{boot};
+ghost use Rattle.psos_model.specs.Replay.{boot_system};
+ghost use Rattle.psos_core.specs.System.{system_of};
+ghost use Rattle.psos_core.specs.Faults.{MayStop};
+ghost use Rattle.psos_core.specs.Events.{IsAfter};
+ghost use Rattle.psos_top.specs.Orders.{IsRunBy};
+ghost use Rattle.psos_top.specs.Outcome.{IsNoRun, RunEnds, Ends};
+
+use crate::Command;
+use crate::ending::{finish, no_run, refuse, stop};
+use crate::outcome::Outcome;
+use psos_calls::Script;
+use psos_core::{Core, Levels, Parts};
+use psos_io::{InputFault, Sink, Source, Store, read_all};
+use psos_journal::StopCause;
+use psos_script::{ReadFault, read_script};
+use std::alloc::Global;
+
+// Prints a run that was not stopped.
+fn print_run<K: Sink, B: Store>(alloc: Global, core: Core<B>, output: &mut K) -> Outcome<B>
+    ghost command: { Command }
+    requires going { core.stopped ≡ None }
+    requires run { IsRunBy command core.script core.entries (system_of core.levels) }
+    ensures ends { RunEnds command (K.took output.old) (K.took output.new) (K.faults output.old) (K.faults output.new)
+        core.script result.status result.entries (option_map (λ l. system_of l) result.levels) }
+    ensures store { result.store ≡ None }
+    ensures levels { IfSome result.levels (λ l. l ≡ core.levels) }
+    ensures store_faults { result.store_faults ≡ B.faults core.levels.pages.store }
+{
+    let (script, parts) = core.into_parts();
+    let Parts {
+        entries,
+        levels,
+        ..
+    } = parts;
+    match levels {
+        Some(levels) => finish(alloc, &script, entries, levels, output),
+        None => unreachable!(),
+    }
+}
+
+// Runs a script from boot to its end, in the order of the command.
+fn run_core<B: Store>(alloc: Global, command: Command, core: &mut Core<B>) -> Result<(), StopCause>
+    requires well_formed { IsWellFormed core.old.script }
+    requires booted { system_of core.old.levels ≡ boot_system core.old.script }
+    requires after { IsAfter core.old (record { system = system_of core.old.levels; flat = boot core.old.script }) [] }
+    requires fresh { core.old.entries ≡ [] }
+    requires going { core.old.stopped ≡ None }
+    ensures run { OnOk result (IsRunBy command core.new.script core.new.entries (system_of core.new.levels)) }
+    ensures script { core.new.script ≡ core.old.script }
+    ensures going { OnOk result (core.new.stopped ≡ None) }
+    ensures stopped { IfErr result (λ cause. core.new.stopped ≡ Some cause) }
+    ensures cause { MayStop (B.faults core.old.levels.pages.store) (B.faults core.new.levels.pages.store) result }
+{
+    match command {
+        Command::Serial => core.serial(alloc),
+        Command::Turns(seed) => core.turns(alloc, seed),
+    }
+}
+
+// Boots, runs and prints a script.
+fn run_script<K: Sink, B: Store>(
+    alloc: Global,
+    command: Command,
+    script: Script,
+    frames: u16,
+    output: &mut K,
+    store: B,
+) -> Outcome<B>
+    requires well_formed { IsWellFormed script }
+    requires least { 8 ≤ frames }
+    requires most { frames ≤ 256 }
+    ensures ends { RunEnds command (K.took output.old) (K.took output.new) (K.faults output.old) (K.faults output.new)
+        script result.status result.entries (option_map (λ l. system_of l) result.levels) }
+    ensures store { result.store ≡ None }
+    ensures store_faults { IfSome result.levels (λ l. result.store_faults ≡ B.faults l.pages.store) }
+    ensures store_later { B.faults store ≤ result.store_faults }
+{
+    let store_faults = store.faults();
+    let Ok(levels) = Levels::boot(alloc, &script, frames, store) else {
+        return no_run(alloc, 6, store_faults);
+    };
+    let Ok(mut core) = Core::new(alloc, script, levels) else {
+        return no_run(alloc, 6, store_faults);
+    };
+    match run_core(alloc, command, &mut core) {
+        Ok(()) => print_run(alloc, core, output),
+        Err(_cause) => stopped(alloc, core),
+    }
+}
+
+// A run that was stopped. Nothing is written.
+fn stopped<B: Store>(alloc: Global, core: Core<B>) -> Outcome<B>
+    ensures status { result.status ≡ 6 }
+    ensures none { IsNoRun result.entries result.levels }
+    ensures levels { result.levels ≡ None }
+    ensures store { result.store ≡ None }
+    ensures store_faults { result.store_faults ≡ B.faults core.levels.pages.store }
+{
+    let (_, parts) = core.into_parts();
+    no_run(alloc, 6, parts.store_faults)
+}
+
+/// A command: reads a script, runs it in the command's order, and prints the transcript (docs/program.md, "Commands").
+/// The number of frames has no effect today. It always returns.
+pub(crate) fn run<I: Source, K: Sink, B: Store>(
+    alloc: Global,
+    command: Command,
+    frames: u16,
+    input: &mut I,
+    output: &mut K,
+    store: B,
+) -> Outcome<B>
+    requires least { 8 ≤ frames }
+    requires most { frames ≤ 256 }
+    ensures ends { Ends command
+        (record { before = I.left input.old; now = I.left input.new; faults_before = I.faults input.old; faults_now = I.faults input.new })
+        (record { before = K.took output.old; now = K.took output.new; faults_before = K.faults output.old; faults_now = K.faults output.new })
+        (record { status = result.status; entries = result.entries; left = option_map (λ l. system_of l) result.levels }) }
+    ensures store { result.store ≡ None }
+    ensures store_faults { IfSome result.levels (λ l. result.store_faults ≡ B.faults l.pages.store) }
+    ensures store_later { B.faults store ≤ result.store_faults }
+{
+    let bytes = match read_all(alloc, input) {
+        Ok(bytes) => bytes,
+        Err(InputFault::Failed) => return stop(alloc, output, 3, b"read fault\n", store),
+        Err(InputFault::Memory) => return no_run(alloc, 6, store.faults()),
+    };
+    match read_script(alloc, &bytes) {
+        Ok(script) => run_script(alloc, command, script, frames, output, store),
+        Err(ReadFault::Script(fault)) => refuse(alloc, output, fault, store),
+        Err(ReadFault::Memory(_)) => no_run(alloc, 6, store.faults()),
+    }
+}
