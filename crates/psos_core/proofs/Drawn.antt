@@ -188,11 +188,14 @@ some_in : (us : List ℕ) → (length us == 0) ≡ false → 0 < length us
 some_in [] some = absurd (true≢false some)
 some_in (u ∷ us) some = omega arith
 
--- the one that is drawn stands at the place that was picked
-pub picked_is : (us slots : List ℕ) (x k d : ℕ) → slots ≡ us → k ≡ x % length us → (length us == 0) ≡ false → picked x us ≡ Some (get_or slots k d)
-picked_is us slots x k d same is some =
-    let below : k < length us = subst (λ (j : ℕ). j < length us) (sym is) (mod_below x (length us) (some_in us some)) in
-    ap (slice_get us) (sym is) ∙ (slice_get-get_or us k d below ∙ ap (λ (xs : List ℕ). Some (get_or xs k d)) (sym same))
+-- the one that is drawn stands at the place that was picked, where there is one
+pub picked_is : (us among slots : List ℕ) (x k n d : ℕ) (empty : Bool) → among ≡ us → slots ≡ among → n ≡ length among → k ≡ x % n → empty ≡ (length among == 0) → empty ≡ false
+    → picked x us ≡ Some (get_or slots k d)
+picked_is us among slots x k n d empty all same many is tells some =
+    let place : k ≡ x % length us = is ∙ ap (λ (m : ℕ). x % m) (many ∙ ap length all) in
+    let one : 0 < length us = some_in us (ap (λ (vs : List ℕ). length vs == 0) (sym all) ∙ (sym tells ∙ some)) in
+    let below : k < length us = subst (λ (j : ℕ). j < length us) (sym place) (mod_below x (length us) one) in
+    ap (slice_get us) (sym place) ∙ (slice_get-get_or us k d below ∙ ap (λ (xs : List ℕ). Some (get_or xs k d)) (sym (same ∙ all)))
 
 -- ---- the end
 
