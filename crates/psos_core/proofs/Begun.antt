@@ -1,5 +1,5 @@
 -- Where a run by events begins.
-use Rattle.std.proofs.Common.{◌≡◌, ℕ, zero, suc, List, [], ◌∷◌, length, map, replicate, Option, Some, None, refl, sym, ap, ◌∙◌, subst}
+use Rattle.std.proofs.Common.{◌≡◌, ℕ, zero, suc, List, [], ◌∷◌, length, map, replicate, Option, None, refl, sym, ap, ◌∙◌, subst}
 use Rattle.std.specs.Prelude.{slice_get, slice_index_or}
 use Rattle.std.specs.Option.{option_and_then}
 use Rattle.std.proofs.lemmas.List.{length-map}
@@ -11,13 +11,13 @@ use Rattle.psos_calls.specs.Script.{Script}
 use Rattle.psos_calls.specs.User.{User}
 use Rattle.psos_model.specs.Flat.{Flat}
 use Rattle.psos_model.specs.Run.{current_phase}
-use Rattle.psos_model.specs.Core.{CoreState, core_of, trace_of}
+use Rattle.psos_model.specs.Core.{CoreState, trace_of}
 use Rattle.psos_model.specs.Serial.{IsCoreStart}
 use Rattle.psos_events.proofs.Kept.{nothing_at}
 use Rattle.psos_core.specs.declared.levels.Levels.{Levels}
 use Rattle.psos_core.specs.declared.ongoing.Ongoing.{Ongoing}
 use Rattle.psos_core.specs.System.{levels_of, system_of}
-use Rattle.psos_core.specs.Events.{state_in, next_after, next_for, HasLed}
+use Rattle.psos_core.specs.Events.{state_in, next_after, HasLed}
 
 -- what is told of each user is told of the user at a place
 each_at : (g : User → Option Next) (users : List User) (u : ℕ) → slice_index_or (map g users) u None ≡ option_and_then g (slice_get users u)

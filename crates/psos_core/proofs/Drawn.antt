@@ -5,24 +5,21 @@ use Rattle.std.proofs.lemmas.Nat.{mod_below}
 use Rattle.std.proofs.lemmas.Bool.{true≢false, eqb-true}
 use Rattle.std.proofs.lemmas.Option.{none-some, same_Some, slice_get_within, slice_get-get_or}
 use Rattle.psos_text.specs.Draws.{first_draw, next_draw}
-use Rattle.psos_calls.specs.declared.entry.Entry.{Entry}
 use Rattle.psos_calls.specs.Script.{Script}
 use Rattle.psos_calls.specs.Tests.{if_there}
 use Rattle.psos_calls.specs.User.{User}
-use Rattle.psos_model.specs.Flat.{Flat}
 use Rattle.psos_model.specs.Run.{is_left, has_left, run_from}
-use Rattle.psos_model.specs.Replay.{System, replay_from, entries_from, order_of, answered_of}
+use Rattle.psos_model.specs.Replay.{System, replay_from, order_of, answered_of}
 use Rattle.psos_model.specs.Output.{calls_of}
 use Rattle.psos_model.specs.StandsFor.{StandsFor}
-use Rattle.psos_model.specs.Core.{CoreState, core_of, core_step, core_after, event_of, may_happen, is_enabled, AreEnabled}
-use Rattle.psos_model.specs.Serial.{IsCoreStart}
+use Rattle.psos_model.specs.Core.{CoreState, core_of, core_step, core_after, is_enabled, AreEnabled}
 use Rattle.psos_model.specs.Turns.{enabled_in, picked, AreDrawn, IsTurnsOrderFrom}
 use Rattle.psos_laws.proofs.OrdersEnd.{orders_end}
 use Rattle.psos_events.specs.Events.{system_in, gone}
 use Rattle.psos_events.proofs.Ended.{events_end}
 use Rattle.psos_events.proofs.Measured.{events_go_on}
 use Rattle.psos_events.proofs.Progress.{never_stuck}
-use Rattle.psos_events.proofs.Kept.{HasDone, stands_now}
+use Rattle.psos_events.proofs.Kept.{stands_now}
 use Rattle.psos_core.specs.declared.ongoing.Ongoing.{Ongoing}
 use Rattle.psos_core.specs.Events.{HasLed, IsUnderWay, MayStep, HasStepped}
 use Rattle.psos_core.specs.Serving.{Start, IsRunFrom}

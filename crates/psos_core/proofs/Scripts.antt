@@ -1,5 +1,5 @@
 -- What holds of the phases of a well-formed script.
-use Rattle.std.proofs.Common.{◌≡◌, ℕ, zero, suc, ◌+◌, ◌<◌, ◌≤◌, List, [], ◌∷◌, length, arith}
+use Rattle.std.proofs.Common.{ℕ, zero, suc, ◌+◌, ◌<◌, ◌≤◌, List, [], ◌∷◌, length, arith}
 use Rattle.std.specs.Prelude.{slice_index_or, sum_by}
 use Rattle.std.specs.List.{AllByRecursion}
 use Rattle.psos_calls.specs.Script.{UserScript, Script, user_script, IsUserScript, IsWellFormed}

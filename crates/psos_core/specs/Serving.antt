@@ -11,7 +11,6 @@ use Rattle.psos_calls.specs.User.{User, next_request, CanCount}
 use Rattle.psos_calls.specs.Levels.{Levels}
 use Rattle.psos_calls.specs.Plan.{Plan, PlanRun, Runs}
 use Rattle.psos_model.specs.Flat.{Flat}
-use Rattle.psos_model.specs.Boot.{boot}
 use Rattle.psos_model.specs.Run.{has_left, run_from, answers_from, run, IsLegalFrom, IsComplete}
 use Rattle.psos_model.specs.Replay.{System, replay_step, replay_from, replay, entries_from, order_of, answered_of, AreFaithful}
 use Rattle.psos_model.specs.Output.{calls_of}

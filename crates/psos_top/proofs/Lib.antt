@@ -1,2 +1,4 @@
 pub mod Refused
 pub mod Printed
+pub mod Ended
+pub mod Pairs

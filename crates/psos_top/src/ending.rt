@@ -123,9 +123,9 @@ pub fn finish<K: Sink, B: Store>(
     levels: Levels<B>,
     output: &mut K,
 ) -> Outcome<B>
-    ghost command: { Command }
-    requires run { IsRunBy command script.now entries (system_of levels) }
-    ensures ends { RunEnds command (K.took output.old) (K.took output.new) (K.faults output.old) (K.faults output.new)
+    requires few { calls_of entries < 2 ^ 64 }
+    ensures ends { (command : Command) → IsRunBy command script.now entries (system_of levels) →
+        RunEnds command (K.took output.old) (K.took output.new) (K.faults output.old) (K.faults output.new)
         script.now result.status result.entries (option_map (λ l. system_of l) result.levels) }
     ensures store { result.store ≡ None }
     ensures levels { IfSome result.levels (λ l. l ≡ levels) }

@@ -1,11 +1,13 @@
 // A command, from the bytes that go in to those that come out.
-ghost use Rattle.std.specs.Prelude.{◌≡◌, ◌≤◌, [], None, Some, OnOk, IfErr, IfSome, option_map};
+ghost use Rattle.std.specs.Prelude.{◌≡◌, ◌≤◌, ◌<◌, ◌^◌, [], None, Some, OnOk, IfErr, IfSome, option_map};
 ghost use Rattle.psos_calls.specs.Script.{IsWellFormed};
 ghost use Rattle.psos_model.specs.Boot.{boot};
 ghost use Rattle.psos_model.specs.Replay.{boot_system};
+ghost use Rattle.psos_model.specs.Output.{calls_of};
 ghost use Rattle.psos_core.specs.System.{system_of};
 ghost use Rattle.psos_core.specs.Faults.{MayStop};
 ghost use Rattle.psos_core.specs.Events.{IsAfter};
+ghost use Rattle.psos_top.specs.declared.command.Command.{Command};
 ghost use Rattle.psos_top.specs.Orders.{IsRunBy};
 ghost use Rattle.psos_top.specs.Outcome.{IsNoRun, RunEnds, Ends};
 
@@ -21,10 +23,10 @@ use std::alloc::Global;
 
 // Prints a run that was not stopped.
 fn print_run<K: Sink, B: Store>(alloc: Global, core: Core<B>, output: &mut K) -> Outcome<B>
-    ghost command: { Command }
     requires going { core.stopped ≡ None }
-    requires run { IsRunBy command core.script core.entries (system_of core.levels) }
-    ensures ends { RunEnds command (K.took output.old) (K.took output.new) (K.faults output.old) (K.faults output.new)
+    requires few { calls_of core.entries < 2 ^ 64 }
+    ensures ends { (command : Command) → IsRunBy command core.script core.entries (system_of core.levels) →
+        RunEnds command (K.took output.old) (K.took output.new) (K.faults output.old) (K.faults output.new)
         core.script result.status result.entries (option_map (λ l. system_of l) result.levels) }
     ensures store { result.store ≡ None }
     ensures levels { IfSome result.levels (λ l. l ≡ core.levels) }

@@ -1,4 +1,4 @@
-use Rattle.std.proofs.Common.{◌≡◌, ◌<◌, List, length, refl, sym, ap, subst, ◌∙◌, arith}
+use Rattle.std.proofs.Common.{◌≡◌, List, length, refl, sym, ap, subst, ◌∙◌, arith}
 use Rattle.psos_calls.specs.declared.next.Next.TheVariants as nexts
 use Rattle.std.proofs.lemmas.Option.{slice_get_within}
 use Rattle.psos_calls.specs.declared.step.Step.{Step}

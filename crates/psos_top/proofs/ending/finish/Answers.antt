@@ -6,11 +6,11 @@ use Rattle.psos_top.proofs.ending.finish.Goals as goal
 use Rattle.psos_top.proofs.ending.finish.Goals.{in-Ok, in-Err-Write}
 
 pub returns-in-Err-Memory-clause-ends : goal.returns-in-Err-Memory-clause-ends
-returns-in-Err-Memory-clause-ends g c =
-    ends_broken g.command _ _ _ _ _ c.args.entries (system_of c.args.levels) _ _ _ _ c.requires c.no_run.ensures.status c.in-Err-Memory.ensures.front (_, c.in-Err-Memory.field-0-is) c.in-Err-Memory.ensures.later c.no_run.ensures.none.entries-none (ap (λ o. option_map (λ l. system_of l) o) c.no_run.ensures.levels)
+returns-in-Err-Memory-clause-ends g c = λ command run.
+    ends_broken command _ _ _ _ _ c.args.entries (system_of c.args.levels) _ _ _ _ run c.no_run.ensures.status c.in-Err-Memory.ensures.front (_, c.in-Err-Memory.field-0-is) c.in-Err-Memory.ensures.later c.no_run.ensures.none.entries-none (ap (λ o. option_map (λ l. system_of l) o) c.no_run.ensures.levels)
 
 pub returns-clause-ends : goal.returns-clause-ends
-returns-clause-ends g c = elim c.match-put_run.branch [
-  | in-Ok w ↦ ends_printed g.command _ _ _ _ _ c.args.entries (system_of c.args.levels) _ c.requires w.status-is w.in-Ok.ensures.whole w.in-Ok.ensures.later
-  | in-Err-Write w ↦ ends_cut g.command _ _ _ _ _ c.args.entries (system_of c.args.levels) _ _ c.requires w.status-is w.in-Err-Write.ensures.front w.in-Err-Write.ensures.reason w.in-Err-Write.field-0-is w.in-Err-Write.ensures.later
+returns-clause-ends g c = λ command run. elim c.match-put_run.branch [
+  | in-Ok w ↦ ends_printed command _ _ _ _ _ c.args.entries (system_of c.args.levels) _ run w.status-is w.in-Ok.ensures.whole w.in-Ok.ensures.later
+  | in-Err-Write w ↦ ends_cut command _ _ _ _ _ c.args.entries (system_of c.args.levels) _ _ run w.status-is w.in-Err-Write.ensures.front w.in-Err-Write.ensures.reason w.in-Err-Write.field-0-is w.in-Err-Write.ensures.later
 ]

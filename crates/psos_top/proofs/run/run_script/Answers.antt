@@ -1,18 +1,28 @@
-use Rattle.std.proofs.Common.{◌≡◌, sym, ap, ◌∙◌, subst}
+use Rattle.std.proofs.Common.{◌≡◌, [], sym, ap, ◌∙◌, subst}
 use Rattle.psos_calls.specs.Script.{Script, IsWellFormed}
 use Rattle.psos_model.specs.Boot.{boot}
-use Rattle.psos_model.specs.Replay.{boot_system}
+use Rattle.psos_model.specs.Replay.{System, boot_system}
 use Rattle.psos_core.specs.System.{system_of}
 use Rattle.psos_core.proofs.FromBoot.{boot_starts}
-use Rattle.psos_top.proofs.serial.run_script.Goals as goal
+use Rattle.psos_core.specs.Events.{IsAfter}
+use Rattle.psos_top.proofs.run.run_script.Goals as goal
 
 pub new-requires : goal.new-requires
 new-requires g c = (boot c.args.script, boot_starts c.args.script (system_of c.in-Ok.levels) c.requires.well_formed c.in-Ok.ensures.booted)
 
-pub serial-requires : goal.serial-requires
-serial-requires g c κs within =
+pub run_core-requires : goal.run_core-requires
+run_core-requires g c =
     let core = c.in-Ok-new.core in
     let is = c.in-Ok-new.ensures in
-    let well : IsWellFormed core.script = subst IsWellFormed (sym is.script) c.requires.well_formed in
-    let booted : system_of core.levels ≡ boot_system core.script = ap (λ l. system_of l) is.levels ∙ (c.in-Ok.ensures.booted ∙ ap boot_system (sym is.script)) in
-    (within, (boot_starts core.script (system_of core.levels) well booted, (is.entries, is.going)))
+    let script = c.args.script in
+    let levels = c.in-Ok.levels in
+    let P : Script → System → Type 0 = λ s y. IsAfter core (record { system = y; flat = boot s }) [] in
+    let led : P script (system_of levels) = is.events (boot script) (boot_starts script (system_of levels) c.requires.well_formed c.in-Ok.ensures.booted) in
+    let same : system_of core.levels ≡ system_of levels = ap (λ l. system_of l) is.levels in
+    record {
+      well_formed = subst IsWellFormed (sym is.script) c.requires.well_formed;
+      booted = same ∙ (c.in-Ok.ensures.booted ∙ ap boot_system (sym is.script));
+      after = subst (λ (s : Script). P s (system_of core.levels)) (sym is.script) (subst (P script) (sym same) led);
+      fresh = is.entries;
+      going = is.going;
+    }

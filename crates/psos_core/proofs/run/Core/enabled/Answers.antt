@@ -1,6 +1,5 @@
 use Rattle.std.proofs.Common.{◌≡◌, ◌<◌, ◌&&◌, Bool, length, Some, sym, ap, ◌∙◌, arith}
 use Rattle.std.specs.Prelude.{slice_get}
-use Rattle.psos_model.specs.Run.{has_left}
 use Rattle.psos_core.specs.Events.{core_state_of, next_for, may_go}
 use Rattle.psos_core.proofs.Found.{found_there}
 use Rattle.psos_core.proofs.Stepping.{enabled_is, left_is}

@@ -1,4 +1,4 @@
-use Rattle.std.proofs.Common.{List, [], length, map, replicate, sym, ap, ◌∙◌}
+use Rattle.std.proofs.Common.{List, [], length, map, replicate, ap, ◌∙◌}
 use Rattle.psos_calls.specs.User.{User}
 use Rattle.psos_model.specs.Run.{current_phase}
 use Rattle.psos_agree.proofs.ListsStand.{directories_are_lists}

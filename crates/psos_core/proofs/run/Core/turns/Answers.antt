@@ -1,4 +1,4 @@
-use Rattle.std.proofs.Common.{◌≡◌, ℕ, ◌++◌, ◌∷◌, [], List, get_or, sym, ◌∙◌, subst, arith}
+use Rattle.std.proofs.Common.{◌≡◌, ℕ, ◌++◌, ◌∷◌, [], get_or, sym, ◌∙◌, subst, arith}
 use Rattle.psos_text.specs.Draws.{next_draw}
 use Rattle.psos_calls.specs.Script.{Script}
 use Rattle.psos_model.specs.Turns.{enabled_in, IsTurnsOrderFrom}
