@@ -1,4 +1,4 @@
-//! A simulated capability system: `psos serial` runs the script on standard input, and prints what its users were answered.
+//! A simulated capability system: a script on standard input is run as the words say, and what its users were answered is printed.
 #![tactic(auto)]
 
 use psos_io::{NoGate, NoStore, StdSink, StdSource};
