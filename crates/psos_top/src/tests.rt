@@ -61,24 +61,6 @@ where
 }
 
 #[test]
-fn mint_and_restrict(rt: HostRuntime) -> Result<(), Fail> {
-    let cases: [(&[u8], &[u8]); 2] = [
-        (
-            b"user alice\nmint r4\n",
-            b"alice 1 @0 cap 7 ffff\ndone 1 calls 1\n",
-        ),
-        (
-            b"user alice\nmint r4\nrestrict r5 r4 000f\nrestrict r6 r5 fff0\n",
-            b"alice 1 @0 cap 7 ffff\nalice 2 @1 cap 7 000f\nalice 3 @2 cap 7 0000\ndone 3 calls 1\n",
-        ),
-    ];
-    for (script, text) in cases {
-        expect_both(&rt, script, 0, text)?;
-    }
-    Ok(())
-}
-
-#[test]
 fn limits(rt: HostRuntime) -> Result<(), Fail> {
     let alloc = rt.alloc();
     // A line of 200 letters, and one of 201.
@@ -135,87 +117,6 @@ fn limits(rt: HostRuntime) -> Result<(), Fail> {
         2,
         b"line 0: input too long\n",
     )
-}
-
-// What the words say of a script of one line.
-fn expect_words<R: Abort + Threads + Wait + Sync>(
-    rt: &R,
-    words: &[&str],
-    status: u8,
-    text: &[u8],
-) -> Result<(), Fail>
-where
-    R: AllocGlobal,
-{
-    expect(
-        rt,
-        rt.alloc(),
-        5000,
-        words,
-        b"user alice\nmint r4\n",
-        status,
-        text,
-    )
-}
-
-#[test]
-fn words_that_are_built(rt: HostRuntime) -> Result<(), Fail> {
-    let text = b"alice 1 @0 cap 7 ffff\ndone 1 calls 1\n".as_slice();
-    expect_words(&rt, &["serial", "--frames", "8"], 0, text)?;
-    expect_words(&rt, &["serial", "--frames", "256"], 0, text)?;
-    expect_words(&rt, &["turns"], 0, text)?;
-    expect_words(&rt, &["turns", "--seed", "0"], 0, text)?;
-    let both = ["turns", "--frames", "8", "--seed", "18446744073709551615"];
-    expect_words(&rt, &both, 0, text)
-}
-
-#[test]
-fn words_that_are_not(rt: HostRuntime) -> Result<(), Fail> {
-    let text = b"usage: psos COMMAND [OPTION N]...\n".as_slice();
-    expect_words(&rt, &[], 1, text)?;
-    expect_words(&rt, &[""], 1, text)?;
-    expect_words(&rt, &["fly"], 1, text)?;
-    expect_words(&rt, &["run"], 1, text)?;
-    expect_words(&rt, &["turns", "--seed"], 1, text)?;
-    expect_words(&rt, &["turns", "--seed=1"], 1, text)?;
-    expect_words(&rt, &["turns", "--seed", "18446744073709551616"], 1, text)?;
-    expect_words(&rt, &["turns", "--seed", "1", "--seed", "1"], 1, text)?;
-    expect_words(&rt, &["serial", "serial"], 1, text)?;
-    expect_words(&rt, &["serial", "8"], 1, text)?;
-    expect_words(&rt, &["serial", "--frames"], 1, text)?;
-    expect_words(&rt, &["serial", "--frames", "7"], 1, text)?;
-    expect_words(&rt, &["serial", "--frames", "257"], 1, text)?;
-    expect_words(&rt, &["serial", "--frames", "08"], 1, text)?;
-    expect_words(
-        &rt,
-        &["serial", "--frames", "18446744073709551624"],
-        1,
-        text,
-    )?;
-    expect_words(&rt, &["serial", "--frames=8"], 1, text)?;
-    expect_words(&rt, &["--frames", "8", "serial"], 1, text)?;
-    expect_words(&rt, &["serial", "--frames", "8", "--frames", "8"], 1, text)?;
-    expect_words(&rt, &["serial", "--seed", "1"], 1, text)
-}
-
-#[test]
-fn turns_are_drawn(rt: HostRuntime) -> Result<(), Fail> {
-    let cases: [(&[u8], &[u8]); 2] = [
-        // The second user is drawn first, and the first waits for level 0.
-        (
-            b"user alice\nmint r4\nuser bob\nmint r4\n",
-            b"alice 1 @1 cap 12 ffff\nbob 1 @0 cap 11 ffff\ndone 2 calls 2\n",
-        ),
-        (
-            b"user alice\nphase\nlookup r4 r0 bob\nsend r4 r2\nuser bob\nbind r0 bob r1\nphase\nphase\nrecv r5\nrecv r6\n",
-            b"alice 1 @1 cap 7 ffff\nalice 2 @2 ok\nbob 1 @0 ok\nbob 2 @3 cap 4 ffff\nbob 3 @4 no empty\ndone 5 calls 12\n",
-        ),
-    ];
-    for (script, text) in cases {
-        let words = ["turns", "--seed", "1"].as_slice();
-        expect(&rt, rt.alloc(), 5000, words, script, 0, text)?;
-    }
-    Ok(())
 }
 
 #[test]
