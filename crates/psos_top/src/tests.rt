@@ -1,10 +1,8 @@
-// Worked cases, from the words and bytes that go in to the bytes that come out.
-ghost use Rattle.std.specs.Prelude.{◌≤◌};
+// Sources and sinks that fail at each of their calls, and those over std's reader and writer.
 
 use crate::{Outcome, psos_main};
 use psos_io::{MemSink, MemSource, NoGate, NoStore, Sink, Source, StdSink, StdSource};
 use std::alloc::Global;
-use std::process::Abort;
 use std::sync::Wait;
 use std::test::Fail;
 use std::thread::Threads;
@@ -18,105 +16,6 @@ fn run<R: Threads + Wait + Sync>(
     output: &mut MemSink,
 ) -> Outcome<NoStore> {
     psos_main(rt, alloc, words, input, output, NoStore::new(), &NoGate)
-}
-
-// Runs the words on an input that is given and taken so many bytes at a time.
-fn expect<R: Abort + Threads + Wait + Sync>(
-    rt: &R,
-    alloc: Global,
-    most: usize,
-    words: &[&str],
-    script: &[u8],
-    status: u8,
-    text: &[u8],
-) -> Result<(), Fail>
-    requires { 1 ≤ most }
-{
-    let mut line = Vec::new(alloc);
-    for word in words {
-        line.push(word.to_string(alloc)?)?;
-    }
-    let mut input = MemSource::new(script.to_vec(alloc)?, most, Vec::new(alloc));
-    let mut output = MemSink::new(most, Vec::new(alloc));
-    output.reserve(alloc, 1000)?;
-    let outcome = run(rt, alloc, &line, &mut input, &mut output);
-    assert_eq!(rt; output.bytes(), text);
-    assert_eq!(rt; outcome.status, status);
-    Ok(())
-}
-
-// The command `serial`, whole and one byte at a time.
-fn expect_both<R: Abort + Threads + Wait + Sync>(
-    rt: &R,
-    script: &[u8],
-    status: u8,
-    text: &[u8],
-) -> Result<(), Fail>
-where
-    R: AllocGlobal,
-{
-    let words = ["serial"].as_slice();
-    expect(rt, rt.alloc(), 5000, words, script, status, text)?;
-    expect(rt, rt.alloc(), 1, words, script, status, text)
-}
-
-#[test]
-fn limits(rt: HostRuntime) -> Result<(), Fail> {
-    let alloc = rt.alloc();
-    // A line of 200 letters, and one of 201.
-    let mut script = b"user alice\n".to_vec(alloc)?;
-    script.resize(11 + 200, b'a')?;
-    expect_both(&rt, &script, 2, b"line 2: unknown word\n")?;
-    script.resize(11 + 201, b'a')?;
-    expect_both(&rt, &script, 2, b"line 2: line too long\n")?;
-
-    // 240 lines of a user, and 241.
-    let mut script = b"user alice\n".to_vec(alloc)?;
-    for _ in 0..240 {
-        script.extend_from_slice(b"phase\n")?;
-    }
-    expect_both(&rt, &script, 0, b"done 0 calls 0\n")?;
-    script.extend_from_slice(b"mint r4\n")?;
-    expect_both(&rt, &script, 2, b"line 242: too many lines\n")?;
-
-    // 64 code blocks, and 65.
-    let mut script = Vec::new(alloc);
-    for a in b"abcdefgh" {
-        for b in b"abcdefgh" {
-            script.extend_from_slice(b"code ")?;
-            script.extend_from_slice(&[*a, *b])?;
-            script.extend_from_slice(b"\nmint r4\nend\n")?;
-        }
-    }
-    let mut one_more = script.clone()?;
-    one_more.extend_from_slice(b"code i\n")?;
-    expect_both(&rt, &one_more, 2, b"line 193: too many codes\n")?;
-    script.extend_from_slice(b"user alice\n")?;
-    expect_both(&rt, &script, 0, b"done 0 calls 0\n")?;
-
-    // As many bytes as an input may have, and one more.
-    let words = ["serial"].as_slice();
-    let mut script = Vec::new(alloc);
-    script.resize(1_048_576, b'\n')?;
-    expect(
-        &rt,
-        alloc,
-        5000,
-        words,
-        &script,
-        2,
-        b"line 1048577: no user\n",
-    )?;
-    script.resize(1_048_577, b'\n')?;
-    expect(
-        &rt,
-        alloc,
-        5000,
-        words,
-        &script,
-        2,
-        b"line 0: input too long\n",
-    )
 }
 
 #[test]
