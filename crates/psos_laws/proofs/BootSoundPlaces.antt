@@ -40,21 +40,21 @@ use Rattle.psos_laws.proofs.BootSoundUsers.{boot_user_is}
 
 -- ---- the rows, told whole
 
-data IsBootRow (s : Script) (u : ℕ) (x : Directory) : Type 0 where
+pub data IsBootRow (s : Script) (u : ℕ) (x : Directory) : Type 0 where
   RootRow : u ≡ 1 → root_row ≡ x → IsBootRow s u x
   HomeRow : (i : ℕ) → i < length s.users → u ≡ home_of i → home_row i ≡ x → IsBootRow s u x
 
-directory_row : (s : Script) (u : ℕ) (x : Directory) → at (boot s).dirs u ≡ Some x → IsBootRow s u x
+pub directory_row : (s : Script) (u : ℕ) (x : Directory) → at (boot s).dirs u ≡ Some x → IsBootRow s u x
 directory_row s =
     rows_as (IsBootRow s) (boot s).dirs _ (dirs_are 0 s.users) (each_row (put empty 1 root_row) 4 home_row (IsBootRow s) (row_put (IsBootRow s) empty 1 root_row (RootRow refl refl) (row_empty (IsBootRow s))) 0 s.users
     (λ j h. HomeRow j (omega (arith, h)) refl refl))
 
-segment_row : (s : Script) (u : ℕ) (x : Segment) → at (boot s).segments u ≡ Some x → new_segment 64 guard_1 ≡ x
+pub segment_row : (s : Script) (u : ℕ) (x : Segment) → at (boot s).segments u ≡ Some x → new_segment 64 guard_1 ≡ x
 segment_row s =
     let Q : ℕ → Segment → Type 0 = λ u x. new_segment 64 guard_1 ≡ x in
     rows_as Q (boot s).segments _ (segments_are 0 s.users) (each_row empty 6 (λ _. new_segment 64 guard_1) Q (row_empty Q) 0 s.users (λ j h. refl))
 
-box_row : (s : Script) (u : ℕ) (x : List Word) → at (boot s).boxes u ≡ Some x → [] ≡ x
+pub box_row : (s : Script) (u : ℕ) (x : List Word) → at (boot s).boxes u ≡ Some x → [] ≡ x
 box_row s =
     let Q : ℕ → List Word → Type 0 = λ u x. [] ≡ x in
     rows_as Q (boot s).boxes _ (boxes_are 0 s.users) (each_row empty 3 (λ _. []) Q (row_empty Q) 0 s.users (λ j h. refl))
@@ -66,7 +66,7 @@ equal_is Less e = absurd (subst (λ b. cond b ⊥ ⊤) e tt)
 equal_is Equal e = refl
 equal_is Greater e = absurd (subst (λ b. cond b ⊥ ⊤) e tt)
 
-home_entry : (i : ℕ) (name : Name) (e : Entry) → named (home_row i) name ≡ Some e → (kept_entry (scratch_of i) ≡ e) × (scratch_name ≡ name)
+pub home_entry : (i : ℕ) (name : Name) (e : Entry) → named (home_row i) name ≡ Some e → (kept_entry (scratch_of i) ≡ e) × (scratch_name ≡ name)
 home_entry i name e is = by_test (eq_by_cmp name_cmp name scratch_name) refl (sym (get-insert name_cmp_total before scratch_name (kept_entry (scratch_of i)) name) ∙ is)
   where
     before : Names
@@ -82,7 +82,7 @@ home_has i =
     get-insert name_cmp_total before scratch_name (kept_entry (scratch_of i)) scratch_name
     ∙ ap (λ b. cond b (Some (kept_entry (scratch_of i))) (get before scratch_name)) ((eq_by_cmp_equiv name_cmp_total).refl scratch_name)
 
-root_has : (name : Name) (e : Entry) → named root_row name ≡ Some e → ⊥
+pub root_has : (name : Name) (e : Entry) → named root_row name ≡ Some e → ⊥
 root_has name e is = none-some e (sym (get-empty name_cmp name) ∙ is)
 
 -- ---- the capability at a place: one that users name and that passes the guard, or one on the representation of a directory
@@ -118,11 +118,11 @@ module _ (s : Script) (u : ℕ) (below : u < length s.users) where
   path_named text (suc (suc i)) c e = absurd (none-some c e)
 
 -- what holds where a place of a row has a capability
-by_row : {X A : Type 0} (g : X → Option Capability) (o : Option X) (c : Capability) → option_and_then g o ≡ Some c → ((x : X) → o ≡ Some x → g x ≡ Some c → A) → A
+pub by_row : {X A : Type 0} (g : X → Option Capability) (o : Option X) (c : Capability) → option_and_then g o ≡ Some c → ((x : X) → o ≡ Some x → g x ≡ Some c → A) → A
 by_row g None c e go = absurd (none-some c e)
 by_row g (Some x) c e go = go x refl e
 
-by_entry : {A : Type 0} (o : Option Entry) (c : Capability) → option_map (λ (e : Entry). e.cap) o ≡ Some c → ((x : Entry) → o ≡ Some x → x.cap ≡ c → A) → A
+pub by_entry : {A : Type 0} (o : Option Entry) (c : Capability) → option_map (λ (e : Entry). e.cap) o ≡ Some c → ((x : Entry) → o ≡ Some x → x.cap ≡ c → A) → A
 by_entry None c e go = absurd (none-some c e)
 by_entry (Some x) c e go = go x refl (same_Some x.cap c e)
 

@@ -40,3 +40,4 @@ pub mod FairThere
 pub mod PlacesThere
 pub mod PlacesRuns
 pub mod WatchedRuns
+pub mod BootConfined

@@ -7,17 +7,16 @@ use Rattle.psos_calls.specs.Script.{Script}
 use Rattle.psos_model.specs.Flat.{Flat}
 use Rattle.psos_model.specs.Outcome.{Source}
 use Rattle.psos_model.specs.Answer.{answer}
-use Rattle.psos_model.specs.Boot.{boot}
-use Rattle.psos_model.specs.Run.{run_from, run}
+use Rattle.psos_model.specs.Run.{run_from}
 use Rattle.psos_model.specs.Sound.{IsSound}
 use Rattle.psos_laws.specs.Landings.{Landing}
-use Rattle.psos_laws.specs.History.{event_at, history}
+use Rattle.psos_laws.specs.History.{event_at, history_from}
 use Rattle.psos_laws.specs.Trails.{IsConfined}
 use Rattle.psos_laws.specs.Laws.{IsLawful, LandingsAreAll, UnreadIsNew}
 use Rattle.psos_laws.proofs.Steps.{Lawful, IsNew, IsCopyFrom}
 use Rattle.psos_laws.proofs.StepsAnswered.{ground_of, answer_steps}
-use Rattle.psos_laws.proofs.PlacesLed.{KeepsSound, firm_at, run_led, boot_led}
-use Rattle.psos_laws.proofs.PlacesOrigins.{sound_origins, is_sealed}
+use Rattle.psos_laws.proofs.PlacesLed.{KeepsSound, firm_at, run_led, start_led}
+use Rattle.psos_laws.proofs.PlacesOrigins.{sound_origins, all_landed, is_sealed}
 use Rattle.psos_laws.proofs.PlacesTrails.{is_held_back, keeps_confined}
 
 -- ---- one answer
@@ -45,16 +44,19 @@ pub confined_stays_once : (s : Script) (f : Flat) (u v x m : ℕ) → IsSound s 
 confined_stays_once s f u v x m sound h =
     keeps_confined f (answer s f u).0 u (event_at s f u).landings (event_at s f u).moved (answer_steps s f u sound) (ground_of s f sound) v x m h
 
--- ---- whole runs, where boot is sound and each answer keeps a state sound
+-- ---- whole runs from a sound start, where each answer keeps a state sound
 
-pub runs_are_lawful : (s : Script) → KeepsSound s → IsSound s (boot s) → (order : List ℕ) → IsLawful (history s order) (run s order)
-runs_are_lawful s keeps sound order =
-    let led = run_led s keeps order (boot s) [] sound (boot_led s sound) in
+pub run_is_lawful : (s : Script) → KeepsSound s → (start : Flat) → IsSound s start → (order : List ℕ) → IsLawful start (history_from s start order) (run_from s start order)
+run_is_lawful s keeps start sound order =
+    let past = history_from s start order in
+    let now = run_from s start order in
+    let led = run_led s keeps start order start [] sound (start_led s start sound) in
     record {
-      origins = sound_origins (history s order) (run s order) led;
-      guarded = (firm_at (history s order) (run s order) led).places.guarded;
-      sealed = is_sealed (history s order) (run s order) led;
-      held_back = is_held_back (history s order) (run s order) led;
+      landed = all_landed start past now led;
+      origins = sound_origins start past now led;
+      guarded = (firm_at start past now led).places.guarded;
+      sealed = is_sealed start past now led;
+      held_back = is_held_back start past now led;
     }
 
 -- a run keeps a state sound
@@ -70,7 +72,8 @@ pub run_append : (s : Script) (order more : List ℕ) (f : Flat) → run_from s 
 run_append s [] more f = refl
 run_append s (u ∷ us) more f = run_append s us more (answer s f u).0
 
-pub confined_stays : (s : Script) → KeepsSound s → IsSound s (boot s) → (order more : List ℕ) (v x m : ℕ) → IsConfined (run s order) v x m → IsConfined (run s (order ++ more)) v x m
-confined_stays s keeps sound order more v x m h =
-    subst (λ f. IsConfined f v x m) (sym (run_append s order more (boot s)))
-    (confined_from s keeps more (run s order) v x m (run_keeps s keeps order (boot s) sound) h)
+pub confined_stays : (s : Script) → KeepsSound s → (start : Flat) → IsSound s start → (order more : List ℕ) (v x m : ℕ)
+    → IsConfined (run_from s start order) v x m → IsConfined (run_from s start (order ++ more)) v x m
+confined_stays s keeps start sound order more v x m h =
+    subst (λ f. IsConfined f v x m) (sym (run_append s order more start))
+    (confined_from s keeps more (run_from s start order) v x m (run_keeps s keeps order start sound) h)

@@ -1,13 +1,11 @@
 -- What a history leads to, and how a run makes one.
-use Rattle.std.proofs.Common.{◌≡◌, ◌≢◌, ◌⊎◌, ℕ, Bool, true, false, List, [], ◌∷◌, Some, None, sym, ap, subst, ◌∙◌, inl, inr}
+use Rattle.std.proofs.Common.{◌≡◌, ◌≢◌, ◌⊎◌, ◌<◌, ℕ, Bool, true, false, List, [], ◌∷◌, Some, refl, sym, ap, subst, ◌∙◌, inl, inr}
 use Rattle.std.proofs.lemmas.Bool.{false≢true}
 use Rattle.psos_table.specs.Table.{at}
-use Rattle.psos_table.proofs.Tables.{at-empty}
 use Rattle.psos_calls.specs.declared.win_row.WinRow.{WinRow}
 use Rattle.psos_calls.specs.Script.{Script}
 use Rattle.psos_model.specs.Flat.{Flat, Directory}
 use Rattle.psos_model.specs.Answer.{answer}
-use Rattle.psos_model.specs.Boot.{boot}
 use Rattle.psos_model.specs.Roles.{Role}
 use Rattle.psos_model.specs.Roles as roles
 use Rattle.psos_model.specs.Run.{run_from}
@@ -23,6 +21,7 @@ pub record Firm (f : Flat) : Type 0 where
   pub ground : Ground f
   pub places : IsSoundPlaces f
   pub no_windows : (d : ℕ) (x : Directory) → at f.dirs d ≡ Some x → (w : ℕ) (y : WinRow) → at f.windows w ≡ Some y → y.seg.0 ≢ x.rep
+  pub windows_below : (w : ℕ) (y : WinRow) → at f.windows w ≡ Some y → w < f.next
 
 abbrev is_hidden : Role → Bool
 is_hidden (roles.HiddenIn d) = true
@@ -36,38 +35,35 @@ firm_of s f sound = record {
       let window = sound.windows w y there in
       let segment = sound.segments y.seg.0 window.under window.live in
       not_both y.seg.0 d (ap sound.role same ∙ (sound.dirs d x live).hidden) segment.role-is;
+  windows_below = λ w y there. (sound.windows w y there).below;
 }
   where
     not_both : (u d : ℕ) → sound.role u ≡ roles.HiddenIn d → (sound.role u ≡ roles.Segment) ⊎ IsPart sound.role f u → ⊥
     not_both u d hidden (inl plain) = false≢true (ap is_hidden (sym plain ∙ hidden))
     not_both u d hidden (inr part) = false≢true (ap is_hidden (sym part.part ∙ hidden))
 
--- nothing that a request makes is there
-pub record NothingMade (f : Flat) : Type 0 where
-  pub objects : (o : ℕ) → at f.objects o ≡ None
-  pub windows : (w : ℕ) → at f.windows w ≡ None
+-- from the start each event leads to the state of the next, and the last to this one
+abbrev pub IsLedTo : Flat → List Event → Flat → Type 0
+IsLedTo start [] g = Firm g × (g ≡ start)
+IsLedTo start (e ∷ past) g = LeadsTo e g × Firm g × IsLedTo start past e.flat
 
--- each event leads to the state of the next, and the last to this one, from one where nothing is made
-abbrev pub IsLedTo : List Event → Flat → Type 0
-IsLedTo [] g = Firm g × NothingMade g
-IsLedTo (e ∷ past) g = LeadsTo e g × Firm g × IsLedTo past e.flat
-
-pub firm_at : (past : List Event) (g : Flat) → IsLedTo past g → Firm g
-firm_at [] g led = led.0
-firm_at (e ∷ past) g led = led.1
+pub firm_at : (start : Flat) (past : List Event) (g : Flat) → IsLedTo start past g → Firm g
+firm_at start [] g led = led.0
+firm_at start (e ∷ past) g led = led.1
 
 -- an answer keeps a state sound
 abbrev pub KeepsSound : Script → Type 0
 KeepsSound s = (f : Flat) (u : ℕ) → IsSound s f → IsSound s (answer s f u).0
 
 -- an order from a sound state leads to the state of its run
-pub run_led : (s : Script) → KeepsSound s → (order : List ℕ) (f : Flat) (past : List Event) → IsSound s f → IsLedTo past f → IsLedTo (past_after s f past order) (run_from s f order)
-run_led s keeps [] f past sound led = led
-run_led s keeps (u ∷ us) f past sound led =
+pub run_led : (s : Script) → KeepsSound s → (start : Flat) (order : List ℕ) (f : Flat) (past : List Event) → IsSound s f → IsLedTo start past f
+    → IsLedTo start (past_after s f past order) (run_from s f order)
+run_led s keeps start [] f past sound led = led
+run_led s keeps start (u ∷ us) f past sound led =
     let next : IsSound s (answer s f u).0 = keeps f u sound in
-    let before : IsLedTo past (event_at s f u).flat = subst (IsLedTo past) (sym (event_is s f u).0) led in
-    run_led s keeps us (answer s f u).0 (event_at s f u ∷ past) next (answer_leads s f u sound, firm_of s (answer s f u).0 next, before)
+    let before : IsLedTo start past (event_at s f u).flat = subst (IsLedTo start past) (sym (event_is s f u).0) led in
+    run_led s keeps start us (answer s f u).0 (event_at s f u ∷ past) next (answer_leads s f u sound, firm_of s (answer s f u).0 next, before)
 
--- at boot no object and no window is there
-pub boot_led : (s : Script) → IsSound s (boot s) → IsLedTo [] (boot s)
-boot_led s sound = (firm_of s (boot s) sound, record { objects = λ o. at-empty o; windows = λ w. at-empty w })
+-- a sound state leads to itself
+pub start_led : (s : Script) (f : Flat) → IsSound s f → IsLedTo f [] f
+start_led s f sound = (firm_of s f sound, refl)

@@ -1,4 +1,4 @@
--- Each capability has a sound origin, and sealed holds, along a history.
+-- Each capability has a sound origin and landed, and sealed holds, along a history.
 use Rattle.std.proofs.Common.{◌≡◌, ◌⊎◌, ℕ, ◌<◌, Bool, true, false, cond, nat_le, List, [], ◌∷◌, length, Option, Some, None, refl, sym, ap, subst, ◌∙◌, inl, inr, arith}
 use Rattle.std.proofs.lemmas.Option.{same_Some, none-some}
 use Rattle.std.proofs.lemmas.Bool.{cases_eq, eq-eqb, ne_eqb, false≢true, le-leb, leb-true}
@@ -18,9 +18,10 @@ use Rattle.psos_laws.specs.declared.origin.Origin.{Origin}
 use Rattle.psos_laws.specs.declared.way.Way.{Way}
 use Rattle.psos_laws.specs.declared.way.Way.TheVariants.{Boot, Made, Copied}
 use Rattle.psos_laws.specs.Landings.{Landing}
-use Rattle.psos_laws.specs.Reads.{IsCopy, HasRight, MayRead}
-use Rattle.psos_laws.specs.History.{Event, entry_at, origin_by, origin_of, IsSoundWay, AreSoundOrigins}
-use Rattle.psos_laws.specs.Sealed.{ThroughSource, WhenFound, Through, MadeBy, IsSealed}
+use Rattle.psos_laws.specs.Reads.{IsCopy, HasRight, MayRead, MayWindow}
+use Rattle.psos_laws.specs.When.{WhenFound, WhenTrue}
+use Rattle.psos_laws.specs.History.{Event, entry_at, origin_by, origin_of, IsSoundWay, AreSoundOrigins, HaveAllLanded}
+use Rattle.psos_laws.specs.Sealed.{ThroughSource, Through, MadeBy, IsSealed}
 use Rattle.psos_laws.proofs.Puts.{each_found}
 use Rattle.psos_laws.proofs.Steps.{IsNew, IsCopyFrom, OnlyImpl, NewRep}
 use Rattle.psos_laws.proofs.PlacesKept.{came, is_impl}
@@ -41,39 +42,46 @@ entry_stays : (x : Event) (past : List Event) (t : ℕ) (e : Event) → entry_at
 entry_stays x past t e is =
     ap (λ b. cond b (Some x) (entry_at past t)) (ne_eqb t (length past) (λ same. omega (arith, same, entry_below past t e is))) ∙ is
 
-way_stays : (x : Event) (past : List Event) (c : Capability) (stamp : Option ℕ) (way : Way) → IsSoundWay past c stamp way → IsSoundWay (x ∷ past) c stamp way
-way_stays x past c (Some t) (Copied q by) h = (h.0, entry_stays x past t h.0 h.1, h.2)
-way_stays x past c (Some t) Made h = (h.0, entry_stays x past t h.0 h.1, h.2)
-way_stays x past c (Some t) Boot h = h
-way_stays x past c None Boot h = h
-way_stays x past c None (Copied q by) h = h
-way_stays x past c None Made h = h
+way_stays : (start : Flat) (x : Event) (past : List Event) (p : Place) (c : Capability) (stamp : Option ℕ) (way : Way)
+    → IsSoundWay start past (x.moved p) c stamp way → IsSoundWay start (x ∷ past) p c stamp way
+way_stays start x past p c (Some t) (Copied q by) h = (h.0, entry_stays x past t h.0 h.1, h.2)
+way_stays start x past p c (Some t) Made h = (h.0, entry_stays x past t h.0 h.1, h.2)
+way_stays start x past p c (Some t) Boot h = h
+way_stays start x past p c None Boot h = h
+way_stays start x past p c None (Copied q by) h = h
+way_stays start x past p c None Made h = h
 
-abbrev IsSoundOrigin : List Event → Capability → Origin → Type 0
-IsSoundOrigin past c o = IsSoundWay past c o.stamp o.way
+abbrev IsSoundOrigin : Flat → List Event → Place → Capability → Origin → Type 0
+IsSoundOrigin start past p c o = IsSoundWay start past p c o.stamp o.way
 
-module _ (x : Event) (past : List Event) (next : ℕ) (c : Capability) where
+module _ (start : Flat) (x : Event) (past : List Event) (next : ℕ) (p : Place) (c : Capability) where
   now : entry_at (x ∷ past) (length past) ≡ Some x
   now = ap (λ b. cond b (Some x) (entry_at past (length past))) (eq-eqb (length past) (length past) refl)
 
-  by_new : (b : Bool) (q : Source) → nat_le x.flat.next c.uid ≡ b → IsNew x.flat next c ⊎ IsCopy x.flat x.user c q.place q.by → IsSoundWay (x ∷ past) c (Some (length past)) (cond b Made (Copied q.place q.by))
+  by_new : (b : Bool) (q : Source) → nat_le x.flat.next c.uid ≡ b → IsNew x.flat next c ⊎ IsCopy x.flat x.user c q.place q.by → IsSoundWay start (x ∷ past) p c (Some (length past)) (cond b Made (Copied q.place q.by))
   by_new true q is h = (x, now, leb-true x.flat.next c.uid is)
   by_new false q is (inl new) = absurd (false≢true (sym is ∙ le-leb x.flat.next c.uid new.0))
   by_new false q is (inr copy) = (x, now, copy)
 
-  landing : (source : Option Source) → IsNew x.flat next c ⊎ IsCopyFrom x.flat x.user c source → IsSoundOrigin (x ∷ past) c (origin_by (length past) x.flat.next c source)
+  landing : (source : Option Source) → IsNew x.flat next c ⊎ IsCopyFrom x.flat x.user c source → IsSoundOrigin start (x ∷ past) p c (origin_by (length past) x.flat.next c source)
   landing None (inl new) = (x, now, new.0)
   landing None (inr none) = absurd none
   landing (Some q) h = by_new (nat_le x.flat.next c.uid) q refl h
 
-pub sound_origins : (past : List Event) (g : Flat) → IsLedTo past g → AreSoundOrigins past g
-sound_origins [] g led p c e = tt
-sound_origins (x ∷ past) g led p c e =
-    let P : Option Landing → Type 0 = λ o. IsSoundOrigin (x ∷ past) c (if_there o (origin_of past (x.moved p) c) (λ l. origin_by (length past) x.flat.next c l.source)) in
+pub sound_origins : (start : Flat) (past : List Event) (g : Flat) → IsLedTo start past g → AreSoundOrigins start past g
+sound_origins start [] g led p c e = subst (λ f. cap_at f p ≡ Some c) led.1 e
+sound_origins start (x ∷ past) g led p c e =
+    let P : Option Landing → Type 0 = λ o. IsSoundOrigin start (x ∷ past) p c (if_there o (origin_of past (x.moved p) c) (λ l. origin_by (length past) x.flat.next c l.source)) in
     elim (came x.flat g x.user x.landings x.moved led.0 p c e) [
-      | inl h ↦ subst P (sym h.is) (landing x past g.next c h.landing.source h.lawful.from)
-      | inr h ↦ subst P (sym h.0) (way_stays x past c (origin_of past (x.moved p) c).stamp (origin_of past (x.moved p) c).way (sound_origins past x.flat led.2 (x.moved p) c h.1))
+      | inl h ↦ subst P (sym h.is) (landing start x past g.next p c h.landing.source h.lawful.from)
+      | inr h ↦ subst P (sym h.0) (way_stays start x past p c (origin_of past (x.moved p) c).stamp (origin_of past (x.moved p) c).way (sound_origins start past x.flat led.2 (x.moved p) c h.1))
     ]
+
+-- ---- what landed
+
+pub all_landed : (start : Flat) (past : List Event) (g : Flat) → IsLedTo start past g → HaveAllLanded start past g
+all_landed start [] g led = led.1
+all_landed start (e ∷ past) g led = (λ p c held. led.0.nothing_else p c held, all_landed start past e.flat led.2)
 
 -- ---- sealed
 
@@ -85,21 +93,21 @@ by_impl f u o q (Some r) h is =
     let same : r ≡ Impl = same_Some r Impl (sym h.0 ∙ ap right_of is) in
     (ap Some same, subst (λ z. HasRight f u z q) same h.1)
 
-module _ (v : Event) (past : List Event) (g : Flat) (led : IsLedTo (v ∷ past) g) (o : ℕ) (x : Object) (p : Place) (c : Capability) (e : cap_at g p ≡ Some c) (same : c.uid ≡ x.rep) where
+module _ (start : Flat) (v : Event) (past : List Event) (g : Flat) (led : IsLedTo start (v ∷ past) g) (o : ℕ) (x : Object) (p : Place) (c : Capability) (e : cap_at g p ≡ Some c) (same : c.uid ≡ x.rep) where
   abbrev Earlier : Type 0
-  Earlier = (q : Place) (k : Capability) → cap_at v.flat q ≡ Some k → k.uid ≡ x.rep → (q ≡ ImplOf (uid o)) ⊎ Through past q k o
+  Earlier = (q : Place) (k : Capability) → cap_at v.flat q ≡ Some k → k.uid ≡ x.rep → (q ≡ ImplOf (uid o)) ⊎ Through start past q k o
 
-  by_source : at v.flat.objects o ≡ Some x → Earlier → (source : Option Source) → IsNew v.flat g.next c ⊎ IsCopyFrom v.flat v.user c source → ThroughSource v o source (λ q k. Through past q k o)
-  by_source old on source (inl new) = absurd (omega (arith, new.0, same, (firm_at past v.flat led.2).ground.parts o x old))
+  by_source : at v.flat.objects o ≡ Some x → Earlier → (source : Option Source) → IsNew v.flat g.next c ⊎ IsCopyFrom v.flat v.user c source → ThroughSource v o c source (λ q k. Through start past q k o)
+  by_source old on source (inl new) = absurd (omega (arith, new.0, same, (firm_at start past v.flat led.2).ground.parts o x old))
   by_source old on None (inr none) = absurd none
   by_source old on (Some q) (inr copy) = elim (on q.place copy.old copy.held (copy.same ∙ same)) [
     | inl at_rep ↦ let r = by_impl v.flat v.user o q.place q.by copy.read at_rep in inl (at_rep, r.0, r.1)
-    | inr through ↦ inr (copy.old, copy.held, through)
+    | inr through ↦ inr (copy.old, copy.held, copy.same, through)
   ]
 
-  old_object : at v.flat.objects o ≡ Some x → Earlier → (p ≡ ImplOf (uid o)) ⊎ Through (v ∷ past) p c o
+  old_object : at v.flat.objects o ≡ Some x → Earlier → (p ≡ ImplOf (uid o)) ⊎ Through start (v ∷ past) p c o
   old_object old on =
-      let P : Option Landing → Type 0 = λ l. WhenFound l (Through past (v.moved p) c o) (λ l. ThroughSource v o l.source (λ q k. Through past q k o)) in
+      let P : Option Landing → Type 0 = λ l. WhenFound l (Through start past (v.moved p) c o) (λ l. ThroughSource v o c l.source (λ q k. Through start past q k o)) in
       elim (came v.flat g v.user v.landings v.moved led.0 p c e) [
         | inl h ↦ inr (subst P (sym h.is) (by_source old on h.landing.source h.lawful.from))
         | inr h ↦ elim (on (v.moved p) c h.1 same) [
@@ -108,35 +116,39 @@ module _ (v : Event) (past : List Event) (g : Flat) (led : IsLedTo (v ∷ past) 
         ]
       ]
 
-  new_object : NewRep v.flat v.landings o x.rep → (p ≡ ImplOf (uid o)) ⊎ Through (v ∷ past) p c o
+  new_object : NewRep v.flat v.landings o x.rep → (p ≡ ImplOf (uid o)) ⊎ Through start (v ∷ past) p c o
   new_object new = elim (came v.flat g v.user v.landings v.moved led.0 p c e) [
     | inl h ↦ inl (h.here ∙ each_found (OnlyImpl o x.rep) v.landings p h.landing new.only h.is c h.word same)
-    | inr h ↦ absurd (omega (arith, (firm_at past v.flat led.2).places.below (v.moved p) c h.1, new.new, same))
+    | inr h ↦ absurd (omega (arith, (firm_at start past v.flat led.2).places.below (v.moved p) c h.1, new.new, same))
   ]
 
--- capabilities on representations of objects came by the right impl
-sealed_objects : (past : List Event) (g : Flat) → IsLedTo past g → (o : ℕ) (x : Object) → at g.objects o ≡ Some x → (p : Place) (c : Capability) → cap_at g p ≡ Some c → c.uid ≡ x.rep
-    → (p ≡ ImplOf (uid o)) ⊎ Through past p c o
-sealed_objects [] g led o x live p c e same = absurd (none-some x (sym (led.1.objects o) ∙ live))
-sealed_objects (v ∷ past) g led o x live p c e same = elim (led.0.objects o x live) [
-  | inl old ↦ old_object v past g led o x p c e same old (λ q k held is. sealed_objects past v.flat led.2 o x old q k held is)
-  | inr new ↦ new_object v past g led o x p c e same new
+-- capabilities on representations of objects came by the right impl, or lay there at the start
+sealed_objects : (start : Flat) (past : List Event) (g : Flat) → IsLedTo start past g → (o : ℕ) (x : Object) → at g.objects o ≡ Some x → (p : Place) (c : Capability) → cap_at g p ≡ Some c → c.uid ≡ x.rep
+    → (p ≡ ImplOf (uid o)) ⊎ Through start past p c o
+sealed_objects start [] g led o x live p c e same = inr (x, subst (λ (f : Flat). at f.objects o ≡ Some x) led.1 live, same, subst (λ f. cap_at f p ≡ Some c) led.1 e)
+sealed_objects start (v ∷ past) g led o x live p c e same = elim (led.0.objects o x live) [
+  | inl old ↦ old_object start v past g led o x p c e same old (λ q k held is. sealed_objects start past v.flat led.2 o x old q k held is)
+  | inr new ↦ new_object start v past g led o x p c e same new
 ]
 
--- every window was made by a user that could
-windows_made : (past : List Event) (g : Flat) → IsLedTo past g → (w : ℕ) (y : WinRow) → at g.windows w ≡ Some y → MadeBy past w y.seg.0
-windows_made [] g led w y live = absurd (none-some y (sym (led.1.windows w) ∙ live))
-windows_made (e ∷ past) g led w y live = elim (led.0.windows w y live) [
-  | inl old ↦ inr (windows_made past e.flat led.2 w y old)
-  | inr new ↦ inl new
-]
+-- every window was made by a user that could, or was there at the start
+windows_made : (start : Flat) (past : List Event) (g : Flat) → IsLedTo start past g → (w : ℕ) (y : WinRow) → at g.windows w ≡ Some y → MadeBy start past w y.seg.0
+windows_made start [] g led w y live = (y, subst (λ (f : Flat). at f.windows w ≡ Some y) led.1 live, refl)
+windows_made start (e ∷ past) g led w y live =
+    let P : Bool → Type 0 = λ b. WhenTrue b (MayWindow e.flat e.user y.seg.0) (MadeBy start past w y.seg.0) in
+    elim (led.0.windows w y live) [
+      | inl old ↦
+          let below = (firm_at start past e.flat led.2).windows_below w y old in
+          subst P (sym (ne_eqb e.flat.next w (λ same. omega (arith, below, same)))) (windows_made start past e.flat led.2 w y old)
+      | inr new ↦ subst P (sym (eq-eqb e.flat.next w new.0)) new.1
+    ]
 
-pub is_sealed : (past : List Event) (g : Flat) → IsLedTo past g → IsSealed past g
-is_sealed past g led =
-    let firm = firm_at past g led in
+pub is_sealed : (start : Flat) (past : List Event) (g : Flat) → IsLedTo start past g → IsSealed start past g
+is_sealed start past g led =
+    let firm = firm_at start past g led in
     record {
-      objects = sealed_objects past g led;
-      windows = λ o x live w y there same. subst (MadeBy past w) same (windows_made past g led w y there);
+      objects = sealed_objects start past g led;
+      windows = λ o x live w y there same. subst (MadeBy start past w) same (windows_made start past g led w y there);
       dirs = firm.places.hidden;
       no_windows = firm.no_windows;
     }

@@ -5,7 +5,6 @@ use Rattle.std.proofs.lemmas.Bool.{eq-eqb, eqb-true, false≢true, le-leb}
 use Rattle.psos_caps.specs.Capability.{Capability}
 use Rattle.psos_words.specs.Guard.{has_bit, lacks_bit, missing}
 use Rattle.psos_calls.specs.declared.right.Right.{Right}
-use Rattle.psos_calls.specs.Tests.{if_there}
 use Rattle.psos_model.specs.declared.place.Place.{Place}
 use Rattle.psos_model.specs.declared.place.Place.TheVariants.{Reg, FrameReg, PathAt, SegWord, DirName, BoxAt, Link, ImplOf}
 use Rattle.psos_model.specs.Flat.{Flat}
@@ -14,7 +13,8 @@ use Rattle.psos_model.specs.Outcome.{Source}
 use Rattle.psos_laws.specs.Landings.{Landing}
 use Rattle.psos_laws.specs.Reads.{Contains, Leads, MayRead, IsCopy}
 use Rattle.psos_laws.specs.History.{Event}
-use Rattle.psos_laws.specs.Trails.{Held, holds, trail_by, trail, AreHeldBack, IsHeldBack, IsConfined}
+use Rattle.psos_laws.specs.When.{WhenFound, WhenTrue}
+use Rattle.psos_laws.specs.Trails.{Held, holds, WalkBy, IsWalk, AreHeldBack, IsHeldBack, IsConfined}
 use Rattle.psos_laws.proofs.Steps.{Step, Ground, Admits, IsNew, IsCopyFrom}
 use Rattle.psos_laws.proofs.PlacesKept.{came, has_guard}
 use Rattle.psos_laws.proofs.PlacesLed.{Firm, IsLedTo, firm_at}
@@ -124,44 +124,58 @@ module _ (f : Flat) (v : ℕ) (firm : Firm f) (p : Place) (c : Capability) (q : 
   back_copy : IsBackFrom (holds q copy.old ∷ rest) p c
   back_copy = record { more = more; private = private }
 
+-- the way back from a place
+record Back (past : List Event) (p : Place) (c : Capability) : Type 0 where
+  way : List Held
+  walk : IsWalk past p c way
+  held : IsBackFrom way p c
+
 module _ (x : Event) (past : List Event) (g : Flat) (firm : Firm x.flat) (p : Place) (c : Capability) where
-  moved_back : (led : Step x.flat g x.user x.landings x.moved) → IsBackFrom (trail past (x.moved p) c) (x.moved p) c → IsBackFrom (trail past (x.moved p) c) p c
-  moved_back led b = record { more = b.more; private = λ i h e lacks. let r = b.private i h e lacks in (r.0, sym (led.own p r.0) ∙ r.1, r.2) }
+  moved_back : (led : Step x.flat g x.user x.landings x.moved) (way : List Held) → IsBackFrom way (x.moved p) c → IsBackFrom way p c
+  moved_back led way b = record { more = b.more; private = λ i h e lacks. let r = b.private i h e lacks in (r.0, sym (led.own p r.0) ∙ r.1, r.2) }
 
   back_source : (source : Option Source) → IsNew x.flat g.next c ⊎ IsCopyFrom x.flat x.user c source → Admits x.flat x.user p c
-      → ((q : Place) (k : Capability) → cap_at x.flat q ≡ Some k → IsBackFrom (trail past q k) q k) → IsBackFrom (trail_by x.flat c source (trail past)) p c
-  back_source None h admits on = nothing_back p c
+      → ((q : Place) (k : Capability) → cap_at x.flat q ≡ Some k → Back past q k) → (way : List Held) × WalkBy x.flat c source (IsWalk past) way × IsBackFrom way p c
+  back_source None h admits on = ([], refl, nothing_back p c)
   back_source (Some q) h admits on = by_new (nat_le x.flat.next c.uid) refl h
     where
       by_new : (b : Bool) → nat_le x.flat.next c.uid ≡ b → IsNew x.flat g.next c ⊎ IsCopy x.flat x.user c q.place q.by
-          → IsBackFrom (cond b [] (if_there (cap_at x.flat q.place) [] (λ old. holds q.place old ∷ trail past q.place old))) p c
-      by_new true is h = nothing_back p c
+          → (way : List Held)
+          × WhenTrue b (way ≡ []) ((old : Capability) × (rest : List Held) × (cap_at x.flat q.place ≡ Some old) × (old.uid ≡ c.uid) × IsWalk past q.place old rest × (way ≡ holds q.place old ∷ rest))
+          × IsBackFrom way p c
+      by_new true is h = ([], refl, nothing_back p c)
       by_new false is (inl new) = absurd (false≢true (sym is ∙ le-leb x.flat.next c.uid new.0))
       by_new false is (inr copy) =
-          let P : Option Capability → Type 0 = λ o. IsBackFrom (if_there o [] (λ old. holds q.place old ∷ trail past q.place old)) p c in
-          subst P (sym copy.held) (back_copy x.flat x.user firm p c q.place q.by admits copy (trail past q.place copy.old) (on q.place copy.old copy.held))
+          let b = on q.place copy.old copy.held in
+          (holds q.place copy.old ∷ b.way, (copy.old, b.way, copy.held, copy.same, b.walk, refl), back_copy x.flat x.user firm p c q.place q.by admits copy b.way b.held)
 
-back : (past : List Event) (g : Flat) → IsLedTo past g → (p : Place) (c : Capability) → cap_at g p ≡ Some c → IsBackFrom (trail past p c) p c
-back [] g led p c e = nothing_back p c
-back (x ∷ past) g led p c e =
-    let P : Option Landing → Type 0 = λ l. IsBackFrom (if_there l (trail past (x.moved p) c) (λ l. trail_by x.flat c l.source (trail past))) p c in
-    let firm = firm_at past x.flat led.2 in
+back : (start : Flat) (past : List Event) (g : Flat) → IsLedTo start past g → (p : Place) (c : Capability) → cap_at g p ≡ Some c → Back past p c
+back start [] g led p c e = record { way = []; walk = refl; held = nothing_back p c }
+back start (x ∷ past) g led p c e =
+    let P : List Held → Option Landing → Type 0 = λ way l. WhenFound l (IsWalk past (x.moved p) c way) (λ l. WalkBy x.flat c l.source (IsWalk past) way) in
+    let firm = firm_at start past x.flat led.2 in
     elim (came x.flat g x.user x.landings x.moved led.0 p c e) [
-      | inl h ↦ subst P (sym h.is) (back_source x past g firm p c h.landing.source h.lawful.from h.lawful.admits (λ q k held. back past x.flat led.2 q k held))
-      | inr h ↦ subst P (sym h.0) (moved_back x past g firm p c led.0 (back past x.flat led.2 (x.moved p) c h.1))
+      | inl h ↦
+          let b = back_source x past g firm p c h.landing.source h.lawful.from h.lawful.admits (λ q k held. back start past x.flat led.2 q k held) in
+          record { way = b.0; walk = subst (P b.0) (sym h.is) b.1; held = b.2 }
+      | inr h ↦
+          let b = back start past x.flat led.2 (x.moved p) c h.1 in
+          record { way = b.way; walk = subst (P b.way) (sym h.0) b.walk; held = moved_back x past g firm p c led.0 b.way b.held }
     ]
 
-back_from : (past : List Event) (g : Flat) → IsLedTo past g → (p : Place) (c : Capability) → cap_at g p ≡ Some c → AreHeldBack (holds p c ∷ trail past p c)
-back_from past g led p c e zero h is lacks =
+back_from : (g : Flat) → Firm g → (p : Place) (c : Capability) → cap_at g p ≡ Some c → (way : List Held) → IsBackFrom way p c → AreHeldBack (holds p c ∷ way)
+back_from g firm p c e way b zero h is lacks =
     let own_lacks : has_bit c.rights 0 ≡ false = ap (λ (z : Held). has_bit z.cap.rights 0) (same_Some (holds p c) h is) ∙ lacks in
-    let u = lacking_private g (firm_at past g led) p c e own_lacks in
-    (u.0, first_only p c (trail past p c) u.0 u.1)
-back_from past g led p c e (suc i) h is lacks =
-    let r = (back past g led p c e).private i h is lacks in
-    (r.0, one_more p c (trail past p c) r.0 r.1 i r.2)
+    let u = lacking_private g firm p c e own_lacks in
+    (u.0, first_only p c way u.0 u.1)
+back_from g firm p c e way b (suc i) h is lacks =
+    let r = b.private i h is lacks in
+    (r.0, one_more p c way r.0 r.1 i r.2)
 
-pub is_held_back : (past : List Event) (g : Flat) → IsLedTo past g → IsHeldBack past g
-is_held_back past g led = back_from past g led
+pub is_held_back : (start : Flat) (past : List Event) (g : Flat) → IsLedTo start past g → IsHeldBack past g
+is_held_back start past g led p c e =
+    let b = back start past g led p c e in
+    (b.way, b.walk, back_from g (firm_at start past g led) p c e b.way b.held)
 
 -- ---- confined
 

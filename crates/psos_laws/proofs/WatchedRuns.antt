@@ -17,7 +17,7 @@ use Rattle.psos_laws.specs.Laws.{IsLawful}
 use Rattle.psos_laws.proofs.BootSound.{boot_start}
 use Rattle.psos_laws.proofs.OrdersEnd.{orders_end}
 use Rattle.psos_laws.proofs.PlacesLaws.{run_append, confined_stays_once}
-use Rattle.psos_laws.proofs.PlacesRuns.{legal_runs_are_lawful}
+use Rattle.psos_laws.proofs.PlacesRuns.{run_is_lawful}
 use Rattle.psos_laws.proofs.SharedSound.{runs_kept}
 use Rattle.psos_laws.proofs.UsersStep.{can_step}
 
@@ -50,7 +50,7 @@ pub record AreLaws (t : Script) (order : List ℕ) (f : Flat) : Type 0 where
   pub legal : IsLegalFrom t (boot t) order
   pub state : f ≡ run t order
   pub sound : IsSound t f
-  pub lawful : IsLawful (history t order) f
+  pub lawful : IsLawful (boot t) (history t order) f
 
 laws_by : (t : Script) (order : List ℕ) → IsWellFormed t → IsLegalFrom t (boot t) order → (f : Flat) → f ≡ run t order → AreLaws t order f
 laws_by t order formed legal f state = record {
@@ -58,7 +58,7 @@ laws_by t order formed legal f state = record {
   legal = legal;
   state = state;
   sound = subst (IsSound t) (sym state) (runs_kept t (boot t) order formed (boot_start t formed).sound);
-  lawful = subst (IsLawful (history t order)) (sym state) (legal_runs_are_lawful t order formed legal);
+  lawful = subst (IsLawful (boot t) (history t order)) (sym state) (run_is_lawful t (boot t) order formed (boot_start t formed).sound);
 }
 
 pub laws_of : (s t : Script) (order : List ℕ) (f : Flat) → IsRun s t order f → AreLaws t order f

@@ -15,7 +15,7 @@ use Rattle.psos_model.specs.Boot.{boot}
 use Rattle.psos_laws.specs.declared.origin.Origin.{Origin}
 use Rattle.psos_laws.specs.declared.way.Way.{Way}
 use Rattle.psos_laws.specs.declared.way.Way.TheVariants.{Boot, Made, Copied}
-use Rattle.psos_laws.specs.Landings.{Landing, found, puts, before}
+use Rattle.psos_laws.specs.Landings.{Landing, found, landed, puts, before}
 use Rattle.psos_laws.specs.Reads.{IsCopy}
 
 -- a request of a run: the state before it, its user, what it put where, and where the word of each place lay before
@@ -40,7 +40,7 @@ abbrev pub past_after : Script → Flat → List Event → List ℕ → List Eve
 past_after s f past [] = past
 past_after s f past (u ∷ us) = past_after s (answer s f u).0 (event_at s f u ∷ past) us
 
--- the history of an order from a state, and from boot
+-- the history of an order from a start, and from boot
 abbrev pub history_from : Script → Flat → List ℕ → List Event
 history_from s f order = past_after s f [] order
 
@@ -62,7 +62,7 @@ way_by next cap (Some q) = if nat_le next cap.uid then Made else Copied q.place 
 abbrev pub origin_by : ℕ → ℕ → Capability → Option Source → Origin
 origin_by stamp next cap source = record { stamp = Some stamp; way = way_by next cap source }
 
--- the origin of a capability that lies at a place: the last request that put it there gave it, or boot
+-- the origin of a capability that lies at a place: the last request that put it there gave it, or the start
 abbrev pub origin_of : List Event → Place → Capability → Origin
 origin_of [] p cap = record { stamp = None; way = Boot }
 origin_of (e ∷ past) p cap = if_there (found e.landings p) (origin_of past (e.moved p) cap) (λ l. origin_by (length past) e.flat.next cap l.source)
@@ -73,13 +73,27 @@ origin past f p = option_map (origin_of past p) (cap_at f p)
 
 -- ---- sound origins
 
--- a copy is one that the request's user could make then, what was made was new then, and what was there at boot has no stamp
-abbrev pub IsSoundWay : List Event → Capability → Option ℕ → Way → Type 0
-IsSoundWay past cap (Some t) (Copied q by) = (e : Event) × (entry_at past t ≡ Some e) × IsCopy e.flat e.user cap q by
-IsSoundWay past cap (Some t) Made = (e : Event) × (entry_at past t ≡ Some e) × (e.flat.next ≤ cap.uid)
-IsSoundWay past cap None Boot = Unit {0}
-IsSoundWay past cap _ _ = ⊥
+-- where the word of a place lay at the start, if no request put one there
+abbrev pub first_place : List Event → Place → Place
+first_place [] p = p
+first_place (e ∷ past) p = first_place past (e.moved p)
+
+-- a copy is one that the request's user could make then, what was made was new then, and what has no stamp lay there at the start
+abbrev pub IsSoundWay : Flat → List Event → Place → Capability → Option ℕ → Way → Type 0
+IsSoundWay start past p cap (Some t) (Copied q by) = (e : Event) × (entry_at past t ≡ Some e) × IsCopy e.flat e.user cap q by
+IsSoundWay start past p cap (Some t) Made = (e : Event) × (entry_at past t ≡ Some e) × (e.flat.next ≤ cap.uid)
+IsSoundWay start past p cap None Boot = cap_at start (first_place past p) ≡ Some cap
+IsSoundWay start past p cap _ _ = ⊥
 
 -- each capability has a sound origin
-abbrev pub AreSoundOrigins : List Event → Flat → Type 0
-AreSoundOrigins past f = (p : Place) (cap : Capability) → cap_at f p ≡ Some cap → IsSoundWay past cap (origin_of past p cap).stamp (origin_of past p cap).way
+abbrev pub AreSoundOrigins : Flat → List Event → Flat → Type 0
+AreSoundOrigins start past f = (p : Place) (cap : Capability) → cap_at f p ≡ Some cap → IsSoundWay start past p cap (origin_of past p cap).stamp (origin_of past p cap).way
+
+-- ---- what landed
+
+-- each capability after a request landed in it, or lay there before or moved up to there; so it is back to the start
+abbrev pub HaveAllLanded : Flat → List Event → Flat → Type 0
+HaveAllLanded start [] f = f ≡ start
+HaveAllLanded start (e ∷ past) f =
+    ((p : Place) (cap : Capability) → cap_at f p ≡ Some cap → landed e.landings p (cap_at e.flat (e.moved p)) ≡ Some cap)
+    × HaveAllLanded start past e.flat

@@ -1,6 +1,7 @@
 pub mod Landings
 pub mod Reads
 pub mod History
+pub mod When
 pub mod Trails
 pub mod Sealed
 pub mod Laws

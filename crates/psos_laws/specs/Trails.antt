@@ -1,13 +1,13 @@
 -- Capabilities without bit 0 stay with one user. States docs/promises.md, "Held back, confined".
-use Rattle.std.specs.Prelude.{◌≡◌, ◌≤◌, ◌<◌, ℕ, true, false, if◌then◌else◌, nat_le, List, [], ◌∷◌, slice_get, Option, Some, None}
+use Rattle.std.specs.Prelude.{◌≡◌, ◌≤◌, ◌<◌, ℕ, true, false, nat_le, List, [], ◌∷◌, slice_get, Option, Some, None}
 use Rattle.psos_caps.specs.Capability.{Capability}
 use Rattle.psos_words.specs.Guard.{has_bit}
-use Rattle.psos_calls.specs.Tests.{if_there}
 use Rattle.psos_model.specs.declared.place.Place.{Place}
 use Rattle.psos_model.specs.Flat.{Flat}
 use Rattle.psos_model.specs.Places.{cap_at, is_own}
 use Rattle.psos_model.specs.Outcome.{Source}
 use Rattle.psos_laws.specs.Landings.{found}
+use Rattle.psos_laws.specs.When.{WhenFound, WhenTrue}
 use Rattle.psos_laws.specs.History.{Event}
 
 -- a place, and the capability that it held
@@ -18,24 +18,26 @@ pub record Held : Type 0 where
 abbrev pub holds : Place → Capability → Held
 holds p cap = record { place = p; cap = cap }
 
--- one step back to the place that was read, and on from there; what is new was read nowhere
-abbrev pub trail_by : Flat → Capability → Option Source → (Place → Capability → List Held) → List Held
-trail_by f cap None on = []
-trail_by f cap (Some q) on = if nat_le f.next cap.uid then [] else if_there (cap_at f q.place) [] (λ old. holds q.place old ∷ on q.place old)
+-- one step back to the place that was read, which held a capability with this identifier, and on from there; what is new was read nowhere
+abbrev pub WalkBy : Flat → Capability → Option Source → (Place → Capability → List Held → Type 0) → List Held → Type 0
+WalkBy f cap None on way = way ≡ []
+WalkBy f cap (Some q) on way =
+    WhenTrue (nat_le f.next cap.uid) (way ≡ [])
+    ((old : Capability) × (rest : List Held) × (cap_at f q.place ≡ Some old) × (old.uid ≡ cap.uid) × on q.place old rest × (way ≡ holds q.place old ∷ rest))
 
--- where a capability was copied from, and that one, and so on back
-abbrev pub trail : List Event → Place → Capability → List Held
-trail [] p cap = []
-trail (e ∷ past) p cap = if_there (found e.landings p) (trail past (e.moved p) cap) (λ l. trail_by e.flat cap l.source (trail past))
+-- the way back from a place: where its capability was copied from, and that one, and so on to what was made or lay there at the start
+abbrev pub IsWalk : List Event → Place → Capability → List Held → Type 0
+IsWalk [] p cap way = way ≡ []
+IsWalk (e ∷ past) p cap way = WhenFound (found e.landings p) (IsWalk past (e.moved p) cap way) (λ l. WalkBy e.flat cap l.source (IsWalk past) way)
 
 -- where one on the way lacks bit 0, all places up to it are private places of one user
 abbrev pub AreHeldBack : List Held → Type 0
 AreHeldBack way = (i : ℕ) (h : Held) → slice_get way i ≡ Some h → has_bit h.cap.rights 0 ≡ false
     → (u : ℕ) × ((j : ℕ) (k : Held) → j ≤ i → slice_get way j ≡ Some k → is_own k.place u ≡ true)
 
--- so it is from each place that holds a capability
+-- there is a way back from each place that holds a capability, and so it is on it
 abbrev pub IsHeldBack : List Event → Flat → Type 0
-IsHeldBack past f = (p : Place) (cap : Capability) → cap_at f p ≡ Some cap → AreHeldBack (holds p cap ∷ trail past p cap)
+IsHeldBack past f = (p : Place) (cap : Capability) → cap_at f p ≡ Some cap → (way : List Held) × IsWalk past p cap way × AreHeldBack (holds p cap ∷ way)
 
 -- each capability on x with a right of m lacks bit 0 and lies at a private place of user u; and x is no new identifier
 pub record IsConfined (f : Flat) (u x m : ℕ) : Type 0 where

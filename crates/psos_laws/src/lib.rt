@@ -17,8 +17,8 @@ mod way;
 pub use orders::{complete_orders_have_all, orders_end};
 pub use origin::Origin;
 pub use places::{
-    confined_stays, confined_stays_once, landings_are_all, landings_stay, legal_runs_are_lawful,
-    places_stay_sound, unread_is_new,
+    a_process_is_confined, confined_stays, confined_stays_once, landings_are_all, landings_stay,
+    places_stay_sound, runs_are_lawful, unread_is_new,
 };
 pub use sound::{
     answers_keep_sound, runs_from_boot_are_sound, runs_keep_sound, shared_stays_sound, sound_stays,

@@ -6,7 +6,7 @@ ghost use Rattle.psos_model.specs.Answer.{answer};
 ghost use Rattle.psos_model.specs.Sound.{IsSound};
 ghost use Rattle.psos_laws.specs.SoundParts.{IsSoundPlaces};
 ghost use Rattle.psos_laws.specs.Trails.{IsConfined};
-ghost use Rattle.psos_laws.specs.Laws.{LandingsAreAll, LandingsStay, UnreadIsNew, LegalRunsAreLawful, ConfinedStays};
+ghost use Rattle.psos_laws.specs.Laws.{LandingsAreAll, LandingsStay, UnreadIsNew, RunsAreLawful, ConfinedStays, AProcessIsConfined};
 
 /// After each answer to a sound state, every capability at a place is on a used identifier and passes the guard of
 /// its store, and one on a directory's representation lies at its own place (docs/promises.md, "Sound states").
@@ -37,14 +37,21 @@ pub fn confined_stays_once()
     ensures { (s : Script) (f : Flat) (u v x m : ℕ) → IsSound s f → IsConfined f v x m → IsConfined (answer s f u).0 v x m }
 {}
 
-/// After each legal order from boot, every capability has a sound origin and passes the guard of its store, sealed
-/// holds, and held back holds (docs/promises.md, "Origins", "Guarded, kept, sealed" and "Held back, confined").
-pub fn legal_runs_are_lawful()
-    ensures { LegalRunsAreLawful }
+/// At every point of each order from a sound state, every capability landed where it is or lay there at the start, has a
+/// sound origin and passes the guard of its store, sealed holds, and held back holds (docs/promises.md, "Origins",
+/// "Guarded, kept, sealed" and "Held back, confined").
+pub fn runs_are_lawful()
+    ensures { RunsAreLawful }
 {}
 
-/// What is confined after a legal order from boot is confined after each longer one, whatever any user asks
+/// What is confined after an order from a sound state is confined after each longer one, whatever any user asks
 /// (docs/promises.md, "Held back, confined").
 pub fn confined_stays()
     ensures { ConfinedStays }
+{}
+
+/// Where user 0 first takes bit 0 off the capability on its process, its process is confined for the right send
+/// (docs/promises.md, "Held back, confined").
+pub fn a_process_is_confined()
+    ensures { AProcessIsConfined }
 {}

@@ -3,6 +3,7 @@ ghost use Rattle.std.specs.Prelude.{◌≡◌, ℕ, [], ◌∷◌, ◌++◌, len
 ghost use Rattle.psos_text.specs.declared.name.Name.{Name};
 ghost use Rattle.psos_calls.specs.Script.{IsWellFormed};
 ghost use Rattle.psos_model.specs.Answer.{answer};
+ghost use Rattle.psos_model.specs.Boot.{boot};
 ghost use Rattle.psos_model.specs.Run.{run, has_left};
 ghost use Rattle.psos_model.specs.Guarded.{IsGuarded};
 ghost use Rattle.psos_model.specs.Kept.{IsKept};
@@ -72,7 +73,7 @@ impl Watched {
         ensures sound { IsSound script.now (flat_of self.new) }
         ensures guarded { IsGuarded (flat_of self.new) }
         ensures kept { (home : ℕ → ℕ × Name) × IsKept home (flat_of self.new) }
-        ensures lawful { IsLawful (history script.now (order_of self.new)) (flat_of self.new) }
+        ensures lawful { IsLawful (boot script.now) (history script.now (order_of self.new)) (flat_of self.new) }
         ensures confined { (u x m : ℕ) → IsConfined (flat_of self.old) u x m → IsConfined (flat_of self.new) u x m }
     {
         let stamp = self.order.len() as u32;

@@ -1,0 +1,5 @@
+use Rattle.psos_laws.proofs.BootConfined.{a_process_is_confined}
+use Rattle.psos_laws.proofs.places.a_process_is_confined.Goals as goal
+
+pub returns : goal.returns
+returns c = a_process_is_confined
