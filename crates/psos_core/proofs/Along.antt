@@ -19,6 +19,7 @@ use Rattle.psos_model.specs.SerialOrder.{IsFirst, IsSerialFrom}
 use Rattle.psos_model.proofs.AboveAnswers.{at_most_two}
 use Rattle.psos_model.proofs.Asked.{can_count}
 use Rattle.psos_laws.proofs.SharedSound.{runs_kept}
+use Rattle.psos_laws.proofs.PlacesRuns.{runs_are_lawful}
 use Rattle.psos_laws.proofs.UsersStep.{can_step}
 use Rattle.psos_laws.proofs.OrdersEnd.{orders_end}
 use Rattle.psos_laws.proofs.OrdersRun.{AreGoing, turn, turn_going, start_going}
@@ -207,6 +208,7 @@ at_end s y f now entries p start all h =
       few = omega (arith, ap calls_of h.recorded, runs_few s y f order start legal, orders_end s f order start.well_formed start.start legal);
       replayed = h.replayed;
       stands = stands;
+      lawful = runs_are_lawful s f order start.well_formed start.start.sound;
     }
 
 -- from boot
@@ -218,4 +220,5 @@ whole_run s now InOrder entries h = record {
   few = h.few;
   replayed = h.replayed;
   stands = h.stands;
+  lawful = h.lawful;
 }

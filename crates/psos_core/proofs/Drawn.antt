@@ -15,6 +15,7 @@ use Rattle.psos_model.specs.StandsFor.{StandsFor}
 use Rattle.psos_model.specs.Core.{CoreState, core_of, core_step, core_after, is_enabled, AreEnabled}
 use Rattle.psos_model.specs.Turns.{enabled_in, picked, AreDrawn, IsTurnsOrderFrom}
 use Rattle.psos_laws.proofs.OrdersEnd.{orders_end}
+use Rattle.psos_laws.proofs.PlacesRuns.{runs_are_lawful}
 use Rattle.psos_events.specs.Events.{system_in, gone}
 use Rattle.psos_events.proofs.Ended.{events_end}
 use Rattle.psos_events.proofs.Measured.{events_go_on}
@@ -222,6 +223,7 @@ whole s c o start seed x h over =
       few = omega (arith, ap calls_of d.entries, runs_few s y f order h.after.starts d.legal, orders_end s f order h.after.starts.well_formed h.after.starts.start d.legal);
       replayed = left;
       stands = subst (λ (z : System). StandsFor z (run_from s f order)) (sym left) now.stands;
+      lawful = runs_are_lawful s f order h.after.starts.well_formed h.after.starts.start.sound;
     }
 
 -- ---- one turn

@@ -15,7 +15,9 @@ use Rattle.psos_model.specs.Run.{has_left, run_from, answers_from, run, IsLegalF
 use Rattle.psos_model.specs.Replay.{System, replay_step, replay_from, replay, entries_from, order_of, answered_of, AreFaithful}
 use Rattle.psos_model.specs.Output.{calls_of}
 use Rattle.psos_model.specs.Sound.{IsSound}
+use Rattle.psos_model.specs.Boot.{boot}
 use Rattle.psos_model.specs.StandsFor.{StandsFor}
+use Rattle.psos_laws.specs.Laws.{HoldsAlong}
 
 -- where a run starts: the levels with the users' own parts, and the flat state that they stand for
 pub record Start : Type 0 where
@@ -59,7 +61,7 @@ pub record IsServed (s : Script) (old : System) (u : ℕ) (new : System) (entry 
 
 -- ---- all requests
 
--- a whole run from such a start: nobody has a request left, the requests come in such an order, the entries are those of its replay and say what the run answers, and the levels stand for the flat state of the run
+-- a whole run from such a start: nobody has a request left, the requests come in such an order, the entries are those of its replay and say what the run answers, the levels stand for the flat state of the run, and the laws hold at every point of it
 pub record IsRunFrom (s : Script) (y : System) (f : Flat) (InOrder : List ℕ → Type 0) (entries : List Entry) (left : System) : Type 0 where
   pub legal : IsLegalFrom s f (order_of entries)
   pub over : (u : ℕ) → has_left s (run_from s f (order_of entries)).users u ≡ false
@@ -69,8 +71,9 @@ pub record IsRunFrom (s : Script) (y : System) (f : Flat) (InOrder : List ℕ �
   pub few : calls_of entries < 2 ^ 64
   pub replayed : left ≡ replay_from s y (order_of entries)
   pub stands : StandsFor left (run_from s f (order_of entries))
+  pub lawful : HoldsAlong s f (order_of entries)
 
--- a whole run from boot: its order is complete and such an order, its entries are faithful and made few level calls, the levels are those of the replay, and stand for the flat state of the run
+-- a whole run from boot: its order is complete and such an order, its entries are faithful and made few level calls, the levels are those of the replay and stand for the flat state of the run, and at every point of it the origins are sound, and guarded, sealed and held back hold
 pub record IsWholeRun (s : Script) (InOrder : List ℕ → Type 0) (entries : List Entry) (left : System) : Type 0 where
   pub complete : IsComplete s (order_of entries)
   pub faithful : AreFaithful s entries
@@ -78,3 +81,4 @@ pub record IsWholeRun (s : Script) (InOrder : List ℕ → Type 0) (entries : Li
   pub few : calls_of entries < 2 ^ 64
   pub replayed : left ≡ replay s (order_of entries)
   pub stands : StandsFor left (run s (order_of entries))
+  pub lawful : HoldsAlong s (boot s) (order_of entries)
