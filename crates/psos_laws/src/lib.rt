@@ -20,9 +20,7 @@ pub use places::{
     a_process_is_confined, confined_stays, confined_stays_once, landings_are_all, landings_stay,
     places_stay_sound, runs_are_lawful, unread_is_new,
 };
-pub use sound::{
-    answers_keep_sound, runs_from_boot_are_sound, runs_keep_sound, shared_stays_sound, sound_stays,
-};
+pub use sound::{answers_keep_sound, runs_keep_sound, shared_stays_sound};
 pub use starts::{boot_is_start, sound_can_step, users_stay_sound};
 pub use watched::Watched;
 pub use way::Way;

@@ -3,13 +3,11 @@ ghost use Rattle.std.specs.Prelude.{ℕ, ◌+◌, ◌<◌, ◌^◌, IsTrue};
 ghost use Rattle.psos_calls.specs.Script.{Script, IsWellFormed};
 ghost use Rattle.psos_model.specs.Flat.{Flat};
 ghost use Rattle.psos_model.specs.Answer.{answer};
-ghost use Rattle.psos_model.specs.Boot.{boot};
 ghost use Rattle.psos_model.specs.CanStep.{CanStep};
 ghost use Rattle.psos_model.specs.Run.{has_left};
-ghost use Rattle.psos_model.specs.Sound.{IsSound, IsStart};
+ghost use Rattle.psos_model.specs.Laws.{BootIsStart};
+ghost use Rattle.psos_model.specs.Sound.{IsSound};
 ghost use Rattle.psos_laws.specs.SoundParts.{IsSoundUsers};
-
-use psos_calls::Script;
 
 /// Each answer from a sound state keeps the users' own parts sound (docs/promises.md, "Sound states").
 pub fn users_stay_sound()
@@ -23,7 +21,6 @@ pub fn sound_can_step()
 {}
 
 /// A well-formed script can run from boot, which is sound (docs/promises.md, "Sound states").
-pub fn boot_is_start(script: &Script)
-    requires { IsWellFormed script.now }
-    ensures { IsStart script.now (boot script.now) }
+pub fn boot_is_start()
+    ensures { BootIsStart }
 {}

@@ -2,4 +2,4 @@ use Rattle.psos_laws.proofs.SharedSound.{answers_kept}
 use Rattle.psos_laws.proofs.sound.answers_keep_sound.Goals as goal
 
 pub returns : goal.returns
-returns c = answers_kept c.args.script.now c.args.flat.now c.args.user c.requires.well_formed c.requires.sound
+returns c = answers_kept

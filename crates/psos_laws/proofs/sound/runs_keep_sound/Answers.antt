@@ -2,4 +2,4 @@ use Rattle.psos_laws.proofs.SharedSound.{runs_kept}
 use Rattle.psos_laws.proofs.sound.runs_keep_sound.Goals as goal
 
 pub returns : goal.returns
-returns c = runs_kept c.args.script.now c.args.flat.now c.args.order.now c.requires.well_formed c.requires.sound
+returns c = runs_kept

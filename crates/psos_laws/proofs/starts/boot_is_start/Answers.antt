@@ -2,4 +2,4 @@ use Rattle.psos_laws.proofs.BootSound.{boot_start}
 use Rattle.psos_laws.proofs.starts.boot_is_start.Goals as goal
 
 pub returns : goal.returns
-returns c = boot_start c.args.script.now c.requires
+returns c = boot_start
