@@ -1,3 +1,4 @@
 pub mod Capabilities
 pub mod Phases
 pub mod Users
+pub mod Refusals

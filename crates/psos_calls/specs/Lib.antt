@@ -13,6 +13,7 @@ pub mod Level11
 pub mod Level12
 pub mod Level13
 pub mod Levels
+pub mod Refusals
 pub mod Locks
 pub mod Held
 pub mod Plan

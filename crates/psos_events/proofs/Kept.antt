@@ -124,7 +124,7 @@ begins s y f start =
 -- ---- user u, whose own part is x and whose next request this is, has an event
 
 module _ (s : Script) (y : System) (f : Flat) (start : IsCoreStart s y f) (c : CoreState) (h : HasDone s y f c) (u : ℕ) (x : User) (request : Request) (is : IsAsking s c u x request) where
-  abbrev base : System
+  abbrev pub base : System
   base = committed s y c
 
   pub below : u < length s.users
@@ -180,7 +180,7 @@ module _ (s : Script) (y : System) (f : Flat) (start : IsCoreStart s y f) (c : C
     whole = trace_whole (plan_of x request) base.levels (trace_of c u) reply effect over (h.traces u x request is.here is.asks)
 
     -- the system after it
-    abbrev next_system : System
+    abbrev pub next_system : System
     next_system = record { levels = traced base.levels (trace_of c u); users = slice_set base.users u (after s x effect) }
 
     replayed : replay_step s base u ≡ (next_system, entry_of c u x reply)
@@ -195,7 +195,8 @@ module _ (s : Script) (y : System) (f : Flat) (start : IsCoreStart s y f) (c : C
     order_now : order_of one_closed.entries ≡ order_of c.entries ++ u ∷ []
     order_now = order_more c.entries (entry_of c u x reply)
 
-    now : committed s y one_closed ≡ next_system
+    -- what is committed then
+    pub now : committed s y one_closed ≡ next_system
     now = ap (replay_from s y) order_now ∙ (replay_more s y (order_of c.entries) u ∙ ap (λ (r : System × Entry). r.0) replayed)
 
     left_flat : IsTrue (has_left s (run_from s f (order_of c.entries)).users u)

@@ -5,6 +5,7 @@ pub mod Holders
 pub mod Replays
 pub mod Moves
 pub mod Kept
+pub mod Committed
 pub mod Walks
 pub mod Falling
 pub mod Phases

@@ -1,6 +1,7 @@
 // Laws of events.
 ghost use Rattle.psos_model.specs.Laws.{OneTurnsOrder};
 ghost use Rattle.psos_model.specs.Serial.{EventsAreSerial, NeverStuck};
+ghost use Rattle.psos_events.specs.Committed.{CommittedWasFree, ClosesCommit, OthersCommitElsewhere};
 ghost use Rattle.psos_events.specs.Events.{BootIsCoreStart, EventsCommit, EventsCanHappen, EventsGoOn, EventsEnd};
 
 /// After any enabled events from a start, what the core has done is the replay of the requests that closed, one after
@@ -24,6 +25,24 @@ pub fn boot_is_core_start()
 /// closes, and its entries say what that run answers (docs/levels.md, "Locks").
 pub fn events_commit()
     ensures { EventsCommit }
+{}
+
+/// After any enabled events from a start, what is committed to a lock is what lay under it when it was last free
+/// (docs/levels.md, "Locks").
+pub fn committed_was_free()
+    ensures { CommittedWasFree }
+{}
+
+/// An event that closes a request commits that request and no other, and a take or a call commits nothing
+/// (docs/levels.md, "Locks").
+pub fn closes_commit()
+    ensures { ClosesCommit }
+{}
+
+/// After any enabled events from a start, an event of a user that does not hold a lock leaves what is committed to that
+/// lock, also where it closes a request (docs/levels.md, "Locks").
+pub fn others_commit_elsewhere()
+    ensures { OthersCommitElsewhere }
 {}
 
 /// After any enabled events from a start, each event can happen: a call that is made next meets its condition and has

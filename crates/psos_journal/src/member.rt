@@ -1,5 +1,5 @@
 // A member of a journal.
-ghost use Rattle.std.specs.Prelude.{◌≡◌, ◌+◌, [], true, length, IfSome, IfNone, OnOk, IsNone, ◌↔◌};
+ghost use Rattle.std.specs.Prelude.{◌≡◌, ◌+◌, [], true, length, IfSome, IsNone, IsOk, ◌↔◌};
 ghost use Rattle.psos_journal.specs.Views.{list_of};
 
 use crate::mark::Mark;
@@ -47,7 +47,8 @@ impl<T: Names, E> Member<T, E> {
 
     /// Spare room for one entry. An entry takes no memory in a member, so this is never refused.
     pub fn room(&mut self, _alloc: Global) -> Result<(), AllocError>
-        ensures { self.new ≡ self.old }
+        ensures always { IsOk result }
+        ensures same { self.new ≡ self.old }
     {
         Ok(())
     }

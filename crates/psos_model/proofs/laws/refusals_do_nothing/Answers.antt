@@ -1,8 +1,5 @@
 use Rattle.psos_model.proofs.AboveAnswers.{no_changes, no_effect}
 use Rattle.psos_model.proofs.laws.refusals_do_nothing.Goals as goal
 
-pub returns-clause-changes : goal.returns-clause-changes
-returns-clause-changes c = no_changes
-
-pub returns-clause-effect : goal.returns-clause-effect
-returns-clause-effect c = no_effect
+pub returns : goal.returns
+returns c f x request r e = (no_changes f x request r e, no_effect f x request r e)

@@ -1,0 +1,5 @@
+use Rattle.psos_events.proofs.Committed as committed
+use Rattle.psos_events.proofs.laws.others_commit_elsewhere.Goals as goal
+
+pub returns : goal.returns
+returns c = committed.others_commit_elsewhere
