@@ -1,5 +1,5 @@
 // The users' own parts.
-ghost use Rattle.std.specs.Prelude.{◌≡◌, ◌<◌, ◌≤◌, [], ◌∷◌, ◌++◌, length, slice_get, slice_set, IfSome};
+ghost use Rattle.std.specs.Prelude.{◌≡◌, ◌<◌, ◌≤◌, [], ◌∷◌, ◌++◌, length, slice_get, slice_set, None, IfSome};
 ghost use Rattle.std.specs.Option.{option_copied};
 ghost use Rattle.psos_calls.specs.User.{after, CanSettle};
 
@@ -62,10 +62,11 @@ impl Users {
         self.list.push(user);
     }
 
-    /// Makes the change of a request of user u that closes, where there is such a user.
+    /// Makes the change of a request of user u that closes. Where there is no such user nothing changes.
     pub fn settle(&mut self, u: u8, effect: &Effect, script: &Script)
         requires { IfSome (slice_get self.old u) (λ x. CanSettle x effect.now) }
-        ensures { IfSome (slice_get self.old u) (λ x. self.new ≡ slice_set self.old u (after script.now x effect.now)) }
+        ensures settled { IfSome (slice_get self.old u) (λ x. self.new ≡ slice_set self.old u (after script.now x effect.now)) }
+        ensures nobody { slice_get self.old u ≡ None → self.new ≡ self.old }
     {
         if let Some(user) = self.list.get_mut(u as usize) {
             user.settle(effect, script);

@@ -20,4 +20,4 @@ settle-requires c =
 pub returns-clause-state : goal.returns-clause-state
 returns-clause-state c =
     stepped c.args.script.now c.args.self.now c.apply_all.new.self c.in_ok-outcome.outcome c.settle.new.self c.args.user c.in-Some.me.now c.in-Some-next_request.request
-    (sym c.in-Some.ensures) (sym c.in-Some-next_request.ensures) c.in_ok-apply_all.ensures.ok c.in_ok-outcome.ensures.value c.settle.ensures
+    (sym c.in-Some.ensures) (sym c.in-Some-next_request.ensures) c.in_ok-apply_all.ensures.ok c.in_ok-outcome.ensures.value c.settle.ensures.settled
