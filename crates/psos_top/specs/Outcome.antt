@@ -105,7 +105,7 @@ pub record RunEnds (command : Command) (before now : Option (List ℕ)) (faults_
   pub later : faults_before ≤ faults_now
 
 -- exactly status 2: bytes that spell no script end so, unless a read failed or memory was wanting
-pub record RefusesOthers (input : Option (List ℕ)) (reads_before reads_now status : ℕ) : Type 0 where
+pub record RefusesNonScripts (input : Option (List ℕ)) (reads_before reads_now status : ℕ) : Type 0 where
   pub refuses : HoldsNone input → (Rose reads_before reads_now → ⊥) → (status ≡ 2) ⊎ (status ≡ 6)
 
 -- completeness: bytes that spell a script end with 0 and a complete order, unless a read or a write failed or memory was wanting
@@ -170,7 +170,8 @@ pub record Ends (command : Command) (input out : Stream) (given : Given) : Type 
   pub cut : given.status ≡ 4 → (s : Script) × IsCut command input.before input.now out.before out.now given.entries given.left s
   -- at 6, a front of the transcript was written, or nothing
   pub memory : given.status ≡ 6 → IsUnfinished command input.before input.now out.before out.now
-  pub no_script : RefusesOthers input.before input.faults_before input.faults_now given.status
+  -- unless memory was wanting or a count rose, bytes that are no script end it with 2, and a script with 0
+  pub no_script : RefusesNonScripts input.before input.faults_before input.faults_now given.status
   pub complete : RunsScripts input.before input.faults_before input.faults_now out.faults_before out.faults_now given.status given.entries
   -- at 2, 3 and 6 no run was made
   pub none : HasNoRun given.status → IsNoRun given.entries given.left

@@ -1,5 +1,5 @@
 // The arguments of the program.
-ghost use Rattle.std.specs.Prelude.{◌≡◌, map, string_bytes, IfOk, IfErr, IsErr};
+ghost use Rattle.std.specs.Prelude.{◌≡◌, ◌≢◌, map, string_bytes, IfOk, IfErr, IsOk, IsErr};
 ghost use Rattle.std.specs.Vec.Iter.{into_iter_items};
 ghost use Rattle.std.specs.IoError.{error_kind};
 ghost use Rattle.psos_top.specs.Words.{words_in};
@@ -26,6 +26,7 @@ fn rest(alloc: Global, args: Args) -> Result<Vec<String>, AllocError>
 pub(crate) fn words_of(alloc: Global, args: io::Result<Args>) -> Result<Vec<String>, AllocError>
     ensures words { IfOk result (λ words. map string_bytes words.items ≡ words_in args) }
     ensures memory { IfErr args (λ e. error_kind e ≡ ErrorKind.OutOfMemory → IsErr result) }
+    ensures untold { IfErr args (λ e. error_kind e ≢ ErrorKind.OutOfMemory → IsOk result) }
 {
     match args {
         Ok(args) => {

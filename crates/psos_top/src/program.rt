@@ -7,7 +7,7 @@ ghost use Rattle.psos_calls.specs.Script.{Script as Spelled};
 ghost use Rattle.psos_core.specs.System.{system_of};
 ghost use Rattle.psos_top.specs.declared.words.Asked.{Asked};
 ghost use Rattle.psos_top.specs.Words.{words_in, words_asked};
-ghost use Rattle.psos_top.specs.Outcome.{read_fault_text, usage_text, IsRefused, IsStatus, HasNoRun, Wrote, IsPrinted, IsCut, IsUnfinished, IsNoRun, RefusesOthers, RunsScripts, HandsStoreBack, count_at_end};
+ghost use Rattle.psos_top.specs.Outcome.{read_fault_text, usage_text, IsRefused, IsStatus, HasNoRun, Wrote, IsPrinted, IsCut, IsUnfinished, IsNoRun, RefusesNonScripts, RunsScripts, HandsStoreBack, count_at_end};
 ghost use Rattle.psos_top.specs.Program.{EndsAsAsked, ProgramEnds};
 
 use crate::arguments::words_of;
@@ -68,7 +68,7 @@ pub fn psos_main<R: Threads + Wait + Sync, I: Source, K: Sink, B: Store + Send, 
     // Where the words have the shape and no count rose, bytes that are no script end with 2, and a script with 0, unless
     // memory was wanting.
     ensures no_script { words_asked (map string_bytes words.now) ≢ None →
-        RefusesOthers (I.left input.old) (I.faults input.old) (I.faults input.new) result.status }
+        RefusesNonScripts (I.left input.old) (I.faults input.old) (I.faults input.new) result.status }
     ensures complete { words_asked (map string_bytes words.now) ≢ None →
         RunsScripts (I.left input.old) (I.faults input.old) (I.faults input.new) (K.faults output.old) (K.faults output.new) result.status result.entries }
 
@@ -104,8 +104,8 @@ pub fn psos_main<R: Threads + Wait + Sync, I: Source, K: Sink, B: Store + Send, 
 /// The program from its arguments to its exit code, which is the status. The first argument is the program's own name,
 /// and the others are the words (docs/program.md, "Commands").
 ///
-/// Arguments that the system cannot tell are no words. Where there is no memory for them, the code is 6, and nothing is
-/// read or written.
+/// Arguments that the system cannot tell are no words, and the code is 1. Where there is no memory for them, the code is
+/// 6, and nothing is read or written.
 pub fn psos_program<R: Threads + Wait + Sync, I: Source, K: Sink, B: Store + Send, G: Gate + Sync>(
     rt: &R,
     alloc: Global,
@@ -120,6 +120,7 @@ pub fn psos_program<R: Threads + Wait + Sync, I: Source, K: Sink, B: Store + Sen
         (record { before = K.took output.old; now = K.took output.new; faults_before = K.faults output.old; faults_now = K.faults output.new })
         (exit_status result) }
     ensures memory { IfErr args (λ e. error_kind e ≡ ErrorKind.OutOfMemory → exit_status result ≡ 6) }
+    ensures untold { IfErr args (λ e. error_kind e ≢ ErrorKind.OutOfMemory → exit_status result ≡ 1) }
 {
     let Ok(words) = words_of(alloc, args) else {
         return ExitCode::from(6);
