@@ -4,8 +4,9 @@ use Rattle.std.specs.Io.KnownBytes.{Appends, Keeps, IsAtEnd}
 use Rattle.psos_io.specs.Bytes.{AppendsFront}
 use Rattle.psos_io.specs.Causes.{Rose}
 use Rattle.psos_calls.specs.declared.entry.Entry.{Entry}
-use Rattle.psos_calls.specs.Script.{Script}
+use Rattle.psos_calls.specs.Script.{Script, IsWellFormed}
 use Rattle.psos_model.specs.Spelling.{IsScript}
+use Rattle.psos_model.specs.Run.{IsComplete}
 use Rattle.psos_model.specs.Replay.{System, order_of}
 use Rattle.psos_model.specs.Transcript.{transcript}
 use Rattle.psos_model.specs.Output.{output, printed}
@@ -28,14 +29,23 @@ read_fault_text = codes "read fault\n"
 abbrev pub usage_text : List ℕ
 usage_text = codes "usage: psos COMMAND [OPTION N]...\n"
 
--- the input was read to its end, and where its bytes are known they spell the script
+-- the input was read to its end, the script is well formed, and where the bytes are known they spell it
 pub record WasRead (before now : Option (List ℕ)) (s : Script) : Type 0 where
+  pub formed : IsWellFormed s
   pub spelled : IfSome before (λ bytes. IsScript bytes s)
   pub ended : IsAtEnd now
 
 -- the input, where its bytes are known, spells no script
 abbrev pub SpellsNone : Option (List ℕ) → Type 0
 SpellsNone input = IfSome input (λ bytes. (s : Script) → IsScript bytes s → ⊥)
+
+-- the bytes of the input are known, and spell this script
+abbrev pub Holds : Script → Option (List ℕ) → Type 0
+Holds s input = IsSomeAnd input (λ bytes. IsScript bytes s)
+
+-- they are known, and spell none
+abbrev pub HoldsNone : Option (List ℕ) → Type 0
+HoldsNone input = IsSomeAnd input (λ bytes. (s : Script) → IsScript bytes s → ⊥)
 
 -- the whole text was written, or a front of it and a write failed
 pub record Wrote (before now : Option (List ℕ)) (faults_before faults_now : ℕ) (text : List ℕ) : Type 0 where
@@ -94,7 +104,31 @@ pub record RunEnds (command : Command) (before now : Option (List ℕ)) (faults_
   pub memory : status ≡ 6 → Keeps before now ⊎ IsBroken command before now s
   pub later : faults_before ≤ faults_now
 
--- the statuses of a command
+-- exactly status 2: bytes that spell no script end so, unless a read failed or memory was wanting
+pub record RefusesNonScripts (input : Option (List ℕ)) (reads_before reads_now status : ℕ) : Type 0 where
+  pub refuses : HoldsNone input → (Rose reads_before reads_now → ⊥) → (status ≡ 2) ⊎ (status ≡ 6)
+
+-- completeness: bytes that spell a script end with 0 and a complete order, unless a read or a write failed or memory was wanting
+pub record RunsScripts (input : Option (List ℕ)) (reads_before reads_now writes_before writes_now status : ℕ) (entries : List Entry) : Type 0 where
+  pub runs : (s : Script) → Holds s input → (Rose reads_before reads_now → ⊥) → (Rose writes_before writes_now → ⊥)
+      → ((status ≡ 0) × IsComplete s (order_of entries)) ⊎ (status ≡ 6)
+
+-- ---- the store
+
+-- the store is handed back only under 6, of a script that was read, and always there where something was written
+pub record HandsStoreBack {B : Type 0} (input_before input_now before now : Option (List ℕ)) (status : ℕ) (store : Option B) : Type 0 where
+  pub only : IfSome store (λ b. (status ≡ 6) × (s : Script) × WasRead input_before input_now s)
+  pub always : status ≡ 6 → store ≡ None → Keeps before now
+
+-- the count of faults at the end: of the store within the levels, else of the one that is handed back, else as it was at the start
+abbrev pub count_at_end : Option ℕ → Option ℕ → ℕ → ℕ
+count_at_end (Some within) back start = within
+count_at_end None (Some back) start = back
+count_at_end None None start = start
+
+-- ---- the statuses
+
+-- of a command
 abbrev pub IsRunStatus : ℕ → Type 0
 IsRunStatus status = (status ≡ 0) ⊎ (status ≡ 2) ⊎ (status ≡ 3) ⊎ (status ≡ 4) ⊎ (status ≡ 6)
 
@@ -136,6 +170,9 @@ pub record Ends (command : Command) (input out : Stream) (given : Given) : Type 
   pub cut : given.status ≡ 4 → (s : Script) × IsCut command input.before input.now out.before out.now given.entries given.left s
   -- at 6, a front of the transcript was written, or nothing
   pub memory : given.status ≡ 6 → IsUnfinished command input.before input.now out.before out.now
+  -- unless memory was wanting or a count rose, bytes that are no script end it with 2, and a script with 0
+  pub no_script : RefusesNonScripts input.before input.faults_before input.faults_now given.status
+  pub complete : RunsScripts input.before input.faults_before input.faults_now out.faults_before out.faults_now given.status given.entries
   -- at 2, 3 and 6 no run was made
   pub none : HasNoRun given.status → IsNoRun given.entries given.left
   pub input_later : input.faults_before ≤ input.faults_now

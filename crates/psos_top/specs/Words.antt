@@ -1,12 +1,22 @@
 -- The words of the command line. States docs/program.md, "Options".
-use Rattle.std.specs.Prelude.{ℕ, ◌&&◌, Bool, true, false, if◌then◌else◌, nat_le, List, [], ◌∷◌, Option, Some, None, unwrap_or, codes}
+use Rattle.std.specs.Prelude.{ℕ, ◌&&◌, Bool, true, false, if◌then◌else◌, nat_le, List, [], ◌∷◌, map, drop, Option, Some, None, unwrap_or, Result, Ok, Err, codes, string_bytes}
 use Rattle.std.specs.Option.{option_map, option_and_then}
 use Rattle.std.specs.Str.{bytes_eq}
+use Rattle.std.specs.Vec.Iter.{into_iter_items}
+use Rattle.std.specs.declared.string.String.{String}
+use Rattle.std.specs.declared.vec.IntoIter.{IntoIter}
 use Rattle.psos_text.specs.Number.{number_of}
 use Rattle.psos_top.specs.declared.command.Command.{Command}
 use Rattle.psos_top.specs.declared.command.Command.TheVariants.{Serial, Turns}
 use Rattle.psos_top.specs.declared.words.Options.{Options}
 use Rattle.psos_top.specs.declared.words.Asked.{Asked}
+
+-- ---- the words
+
+-- the arguments behind the program's own name; none where the system cannot tell them
+abbrev pub words_in : {A E : Type 0} → Result (IntoIter (String A) A) E → List (List ℕ)
+words_in (Ok args) = map string_bytes (drop 1 (into_iter_items args))
+words_in (Err e) = []
 
 -- ---- the command
 

@@ -1,5 +1,5 @@
 // The ends of a command.
-ghost use Rattle.std.specs.Prelude.{◌≡◌, ◌≤◌, ◌<◌, ◌^◌, ◌⊎◌, None, IfOk, IfErr, IfSome, OnOk, option_map};
+ghost use Rattle.std.specs.Prelude.{◌≡◌, ◌≤◌, ◌<◌, ◌^◌, ◌⊎◌, None, Some, IfOk, IfErr, IfSome, OnOk, option_map};
 ghost use Rattle.std.specs.Io.KnownBytes.{Appends, Keeps};
 ghost use Rattle.psos_model.specs.Output.{calls_of, printed};
 ghost use Rattle.psos_print.specs.Pieces.{HasReason};
@@ -31,6 +31,24 @@ pub fn no_run<B: Store>(alloc: Global, status: u8, store_faults: u64) -> Outcome
         entries: Entries::empty(alloc),
         levels: None,
         store: None,
+        store_faults,
+    }
+}
+
+/// Want of memory in a run that was opened. The store is handed back.
+pub fn give_up<B: Store>(alloc: Global, store: B) -> Outcome<B>
+    ensures status { result.status ≡ 6 }
+    ensures none { IsNoRun result.entries result.levels }
+    ensures levels { result.levels ≡ None }
+    ensures store { result.store ≡ Some store }
+    ensures store_faults { result.store_faults ≡ B.faults store }
+{
+    let store_faults = store.faults();
+    Outcome {
+        status: 6,
+        entries: Entries::empty(alloc),
+        levels: None,
+        store: Some(store),
         store_faults,
     }
 }
@@ -115,7 +133,8 @@ fn put_run<K: Sink>(
     Ok(())
 }
 
-/// Prints a whole run. For want of memory there is then no run, though a front of its transcript may be written.
+/// Prints a whole run. For want of memory there is then no run, though a front of its transcript may be written, and the
+/// store is handed back.
 pub fn finish<K: Sink, B: Store>(
     alloc: Global,
     script: &Script,
@@ -127,14 +146,15 @@ pub fn finish<K: Sink, B: Store>(
     ensures ends { (command : Command) → IsRunBy command script.now entries (system_of levels) →
         RunEnds command (K.took output.old) (K.took output.new) (K.faults output.old) (K.faults output.new)
         script.now result.status result.entries (option_map (λ l. system_of l) result.levels) }
-    ensures store { result.store ≡ None }
     ensures levels { IfSome result.levels (λ l. l ≡ levels) }
+    ensures store { IfSome result.store (λ b. (result.status ≡ 6) × (b ≡ levels.pages.store)) }
+    ensures either { result.levels ≡ None → result.store ≡ Some levels.pages.store }
     ensures store_faults { result.store_faults ≡ B.faults levels.pages.store }
 {
     let status = match put_run(alloc, script, &entries, output) {
         Ok(()) => 0,
         Err(PrintFault::Write) => 4,
-        Err(PrintFault::Memory(_)) => return no_run(alloc, 6, levels.pages.store_faults()),
+        Err(PrintFault::Memory(_)) => return give_up(alloc, levels.pages.into_store()),
     };
     let store_faults = levels.pages.store_faults();
     Outcome {

@@ -1,6 +1,7 @@
 //! The commands of the simulated system, from the words of the command line to the bytes written.
 #![tactic(auto)]
 
+mod arguments;
 mod command;
 mod ending;
 mod outcome;
@@ -12,7 +13,7 @@ mod words;
 
 pub use command::Command;
 pub use outcome::Outcome;
-pub use program::psos_main;
+pub use program::{psos_main, psos_program};
 pub use serial::serial_call;
 pub use turns::turns_call;
 

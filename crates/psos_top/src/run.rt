@@ -1,5 +1,6 @@
 // A command, from the bytes that go in to those that come out.
-ghost use Rattle.std.specs.Prelude.{◌≡◌, ◌≤◌, ◌<◌, ◌^◌, [], None, Some, OnOk, IfErr, IfSome, option_map};
+ghost use Rattle.std.specs.Prelude.{◌≡◌, ◌≤◌, ◌<◌, ◌^◌, [], None, Some, IsSome, OnOk, IfErr, IfSome, option_map};
+ghost use Rattle.std.specs.Io.KnownBytes.{Keeps};
 ghost use Rattle.psos_calls.specs.Script.{IsWellFormed};
 ghost use Rattle.psos_model.specs.Boot.{boot};
 ghost use Rattle.psos_model.specs.Replay.{boot_system};
@@ -9,10 +10,10 @@ ghost use Rattle.psos_core.specs.Faults.{MayStop};
 ghost use Rattle.psos_core.specs.Events.{IsAfter};
 ghost use Rattle.psos_top.specs.declared.command.Command.{Command};
 ghost use Rattle.psos_top.specs.Orders.{IsRunBy};
-ghost use Rattle.psos_top.specs.Outcome.{IsNoRun, RunEnds, Ends};
+ghost use Rattle.psos_top.specs.Outcome.{IsNoRun, RunEnds, Ends, HandsStoreBack, count_at_end};
 
 use crate::Command;
-use crate::ending::{finish, no_run, refuse, stop};
+use crate::ending::{finish, give_up, no_run, refuse, stop};
 use crate::outcome::Outcome;
 use psos_calls::Script;
 use psos_core::{Core, Levels, Parts};
@@ -28,8 +29,9 @@ fn print_run<K: Sink, B: Store>(alloc: Global, core: Core<B>, output: &mut K) ->
     ensures ends { (command : Command) → IsRunBy command core.script core.entries (system_of core.levels) →
         RunEnds command (K.took output.old) (K.took output.new) (K.faults output.old) (K.faults output.new)
         core.script result.status result.entries (option_map (λ l. system_of l) result.levels) }
-    ensures store { result.store ≡ None }
     ensures levels { IfSome result.levels (λ l. l ≡ core.levels) }
+    ensures store { IfSome result.store (λ b. (result.status ≡ 6) × (b ≡ core.levels.pages.store)) }
+    ensures either { result.levels ≡ None → result.store ≡ Some core.levels.pages.store }
     ensures store_faults { result.store_faults ≡ B.faults core.levels.pages.store }
 {
     let (script, parts) = core.into_parts();
@@ -77,8 +79,9 @@ fn run_script<K: Sink, B: Store>(
     requires most { frames ≤ 256 }
     ensures ends { RunEnds command (K.took output.old) (K.took output.new) (K.faults output.old) (K.faults output.new)
         script result.status result.entries (option_map (λ l. system_of l) result.levels) }
-    ensures store { result.store ≡ None }
-    ensures store_faults { IfSome result.levels (λ l. result.store_faults ≡ B.faults l.pages.store) }
+    ensures store { IfSome result.store (λ b. result.status ≡ 6) }
+    ensures unwritten { result.status ≡ 6 → result.store ≡ None → Keeps (K.took output.old) (K.took output.new) }
+    ensures store_faults { result.store_faults ≡ count_at_end (option_map (λ l. B.faults l.pages.store) result.levels) (option_map (λ b. B.faults b) result.store) (B.faults store) }
     ensures store_later { B.faults store ≤ result.store_faults }
 {
     let store_faults = store.faults();
@@ -94,16 +97,21 @@ fn run_script<K: Sink, B: Store>(
     }
 }
 
-// A run that was stopped. Nothing is written.
+// A run that was stopped. Nothing is written, and the store is handed back.
 fn stopped<B: Store>(alloc: Global, core: Core<B>) -> Outcome<B>
+    requires { IsSome core.stopped }
     ensures status { result.status ≡ 6 }
     ensures none { IsNoRun result.entries result.levels }
     ensures levels { result.levels ≡ None }
-    ensures store { result.store ≡ None }
+    ensures store { result.store ≡ Some core.levels.pages.store }
     ensures store_faults { result.store_faults ≡ B.faults core.levels.pages.store }
 {
     let (_, parts) = core.into_parts();
-    no_run(alloc, 6, parts.store_faults)
+    let Parts { store, .. } = parts;
+    match store {
+        Some(store) => give_up(alloc, store),
+        None => unreachable!(),
+    }
 }
 
 /// A command: reads a script, runs it in the command's order, and prints the transcript (docs/program.md, "Commands").
@@ -122,8 +130,8 @@ pub(crate) fn run<I: Source, K: Sink, B: Store>(
         (record { before = I.left input.old; now = I.left input.new; faults_before = I.faults input.old; faults_now = I.faults input.new })
         (record { before = K.took output.old; now = K.took output.new; faults_before = K.faults output.old; faults_now = K.faults output.new })
         (record { status = result.status; entries = result.entries; left = option_map (λ l. system_of l) result.levels }) }
-    ensures store { result.store ≡ None }
-    ensures store_faults { IfSome result.levels (λ l. result.store_faults ≡ B.faults l.pages.store) }
+    ensures store { HandsStoreBack (I.left input.old) (I.left input.new) (K.took output.old) (K.took output.new) result.status result.store }
+    ensures store_faults { result.store_faults ≡ count_at_end (option_map (λ l. B.faults l.pages.store) result.levels) (option_map (λ b. B.faults b) result.store) (B.faults store) }
     ensures store_later { B.faults store ≤ result.store_faults }
 {
     let bytes = match read_all(alloc, input) {

@@ -7,7 +7,7 @@ use Rattle.psos_top.proofs.ending.finish.Goals.{in-Ok, in-Err-Write}
 
 pub returns-in-Err-Memory-clause-ends : goal.returns-in-Err-Memory-clause-ends
 returns-in-Err-Memory-clause-ends g c = λ command run.
-    ends_broken command _ _ _ _ _ c.args.entries (system_of c.args.levels) _ _ _ _ run c.no_run.ensures.status c.in-Err-Memory.ensures.front (_, c.in-Err-Memory.field-0-is) c.in-Err-Memory.ensures.later c.no_run.ensures.none.entries-none (ap (λ o. option_map (λ l. system_of l) o) c.no_run.ensures.levels)
+    ends_broken command _ _ _ _ _ c.args.entries (system_of c.args.levels) _ _ _ _ run c.give_up.ensures.status c.in-Err-Memory.ensures.front (_, c.in-Err-Memory.field-0-is) c.in-Err-Memory.ensures.later c.give_up.ensures.none.entries-none (ap (λ o. option_map (λ l. system_of l) o) c.give_up.ensures.levels)
 
 pub returns-clause-ends : goal.returns-clause-ends
 returns-clause-ends g c = λ command run. elim c.match-put_run.branch [
