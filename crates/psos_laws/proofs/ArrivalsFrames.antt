@@ -1,5 +1,5 @@
 -- What an answer leaves of the open bodies but the innermost, and that this is kept.
-use Rattle.std.proofs.Common.{◌≡◌, ℕ, zero, suc, ◌+◌, ◌-◌, ◌*◌, ◌<◌, ◌≤◌, ◌⊎◌, inl, inr, Bool, true, false, cond, List, [], ◌∷◌, length, slice_get, slice_set, Option, Some, None, refl, sym, ap, subst, ◌∙◌, arith}
+use Rattle.std.proofs.Common.{◌≡◌, ℕ, zero, suc, ◌+◌, ◌-◌, ◌*◌, ◌<◌, inl, inr, Bool, true, false, cond, List, [], ◌∷◌, length, slice_get, slice_set, Some, refl, sym, ap, subst, ◌∙◌, arith}
 use Rattle.std.specs.Prelude.{⊤, slice_index_or}
 use Rattle.std.proofs.lemmas.Bool.{cases_eq, eq-eqb, ne_eqb}
 use Rattle.std.proofs.lemmas.List.{get_or-set_other}
@@ -15,7 +15,7 @@ use Rattle.psos_calls.specs.User.{User, regs_in, here, counted, with_reg, settle
 use Rattle.psos_model.specs.Places.{frame_at}
 use Rattle.psos_laws.specs.Landings.{is_over}
 use Rattle.psos_laws.specs.Arrivals.{AreFull, AreCallers}
-use Rattle.psos_laws.proofs.ArrivesOwn.{closing, no_frame}
+use Rattle.psos_laws.proofs.ArrivesOwn.{closing}
 use Rattle.psos_laws.proofs.StepsShared.{set_here, set_apart}
 
 -- ---- bodies by their depth

@@ -1,12 +1,11 @@
 -- What is kept tells the origins of the history, after each request. States docs/promises.md, "Origins".
-use Rattle.std.proofs.Common.{◌≡◌, ℕ, zero, suc, cond, ◌+◌, ◌-◌, ◌<◌, ◌≤◌, List, [], ◌∷◌, ◌++◌, length, slice_get, slice_set, Option, Some, None, refl, sym, ap, subst, ◌∙◌, arith, length-append, length-set, inl, inr}
+use Rattle.std.proofs.Common.{◌≡◌, ℕ, zero, suc, cond, ◌<◌, ◌≤◌, List, [], ◌∷◌, ◌++◌, length, slice_get, slice_set, Some, refl, sym, ap, subst, ◌∙◌, arith, length-append, length-set, inl, inr}
 use Rattle.std.specs.Prelude.{IsTrue, reverse}
 use Rattle.std.specs.List.{AllByRecursion}
 use Rattle.std.proofs.lemmas.Bool.{cases_eq, ne_eqb, eq-eqb}
 use Rattle.std.proofs.lemmas.List.{reverse-append, length-reverse}
 use Rattle.std.proofs.lemmas.Option.{same_Some, none-some, slice_get_within}
 use Rattle.psos_table.specs.Table.{at}
-use Rattle.psos_caps.specs.Capability.{Capability}
 use Rattle.psos_words.specs.declared.word.Word.{Word}
 use Rattle.psos_calls.specs.declared.frame.Frame.{Frame}
 use Rattle.psos_calls.specs.declared.request.Request.{Request}
@@ -27,7 +26,7 @@ use Rattle.psos_laws.specs.declared.coming.Coming.{Coming}
 use Rattle.psos_laws.specs.declared.origins.Origins.{Origins}
 use Rattle.psos_laws.specs.Landings.{Landing, changes_put, effect_puts, end_puts, puts, before}
 use Rattle.psos_laws.specs.History.{Event, event_by, event_at, past_after, history, origin_of}
-use Rattle.psos_laws.specs.Arrivals.{Arrivals, told, came_by, came_in, came_out, moved_by, opened_by, IsComing, IsKept, IsFull, AreFull, AreCallers, Tells}
+use Rattle.psos_laws.specs.Arrivals.{told, came_by, came_in, came_out, moved_by, opened_by, IsComing, IsKept, AreFull, AreCallers, Tells}
 use Rattle.psos_laws.proofs.ArrivesOwn.{closing, number_closing, same_ends}
 use Rattle.psos_laws.proofs.Steps.{Fair, first_puts}
 use Rattle.psos_laws.proofs.StepsShared.{set_here}

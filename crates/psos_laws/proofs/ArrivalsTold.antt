@@ -1,8 +1,7 @@
 -- What is kept of a request tells what the history says of it.
-use Rattle.std.proofs.Common.{◌≡◌, ◌||◌, ◌&&◌, ℕ, zero, suc, ◌+◌, ◌-◌, ◌<◌, ◌≤◌, nat_lt, nat_le, Bool, true, false, cond, List, [], ◌∷◌, ◌++◌, length, slice_set, Option, Some, None, refl, sym, ap, subst, ◌∙◌, ◌⊎◌, inl, inr, arith, append_assoc}
+use Rattle.std.proofs.Common.{◌≡◌, ◌||◌, ◌&&◌, ℕ, suc, ◌+◌, ◌-◌, ◌≤◌, Bool, true, false, cond, List, [], ◌∷◌, ◌++◌, length, slice_set, Option, Some, None, refl, sym, ap, ◌∙◌, ◌⊎◌, inl, inr, arith, append_assoc}
 use Rattle.std.proofs.lemmas.List.{append-nil}
 use Rattle.std.proofs.lemmas.Bool.{false≢true, and_parts, le-ltb, lt-ltb}
-use Rattle.psos_table.specs.Table.{at}
 use Rattle.psos_caps.specs.Capability.{Capability}
 use Rattle.psos_words.specs.declared.word.Word.{Word}
 use Rattle.psos_words.specs.Words.{word_at}
@@ -11,17 +10,17 @@ use Rattle.psos_calls.specs.declared.effect.Effect.{Effect}
 use Rattle.psos_calls.specs.declared.effect.Effect.TheVariants.{Nothing, Put, Push, Enter}
 use Rattle.psos_calls.specs.Script.{Script}
 use Rattle.psos_calls.specs.Tests.{if_there}
-use Rattle.psos_calls.specs.User.{User, counted, with_reg, settled, outward, ended, after}
+use Rattle.psos_calls.specs.User.{User, counted, with_reg, settled, outward, ended}
 use Rattle.psos_model.specs.declared.place.Place.{Place}
-use Rattle.psos_model.specs.declared.place.Place.TheVariants.{Reg, FrameReg}
+use Rattle.psos_model.specs.declared.place.Place.TheVariants.{FrameReg}
 use Rattle.psos_model.specs.declared.change.Change.{Change}
 use Rattle.psos_model.specs.declared.change.Change.TheVariants.{Fresh, PutWord, Bind, Register, Post, Draw, MakeObject, MakeDirectory, MakeCode}
 use Rattle.psos_model.specs.Flat.{Flat}
 use Rattle.psos_model.specs.Places.{same_place, reg_place}
 use Rattle.psos_model.specs.Changes.{changed}
-use Rattle.psos_model.specs.Outcome.{Source, own, Outcome}
+use Rattle.psos_model.specs.Outcome.{Source, own}
 use Rattle.psos_laws.specs.declared.origin.Origin.{Origin}
-use Rattle.psos_laws.specs.Landings.{Landing, lands, change_puts, changes_put, effect_puts, end_puts, found, source_after, is_over, outer_place, before_change, before}
+use Rattle.psos_laws.specs.Landings.{Landing, lands, change_puts, changes_put, end_puts, found, source_after, is_over, outer_place, before_change, before}
 use Rattle.psos_laws.specs.History.{Event, origin_of, origin_by}
 use Rattle.psos_laws.specs.Arrivals.{Arrival, Arrivals, told, comes, came_by, came_in, came_out, last_to, moved_by, drawn_by, opened_by}
 use Rattle.psos_laws.proofs.Steps.{is_making, lands_none, none_land, only_fresh, tells, is_short}

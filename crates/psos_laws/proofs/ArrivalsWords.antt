@@ -1,10 +1,9 @@
 -- Lists of words that are read one by one, and the registers of open bodies.
-use Rattle.std.proofs.Common.{◌≡◌, ◌⊎◌, ℕ, zero, suc, cond, ◌+◌, ◌*◌, ◌<◌, ◌≤◌, List, [], ◌∷◌, length, slice_get, slice_set, Option, Some, None, option_and_then, refl, sym, ap, subst, ◌∙◌, inl, inr, arith}
+use Rattle.std.proofs.Common.{◌≡◌, ◌⊎◌, ℕ, cond, ◌+◌, ◌*◌, ◌<◌, ◌≤◌, List, [], ◌∷◌, length, slice_get, slice_set, Option, Some, None, option_and_then, refl, sym, ap, ◌∙◌, inl, inr, arith}
 use Rattle.std.specs.Prelude.{slice_index_or}
 use Rattle.std.proofs.lemmas.Bool.{cases_eq, eq-eqb, ne_eqb}
 use Rattle.std.proofs.lemmas.List.{get_or-set_other, get_or_past}
 use Rattle.std.proofs.lemmas.Grind.{get_or-set_at}
-use Rattle.std.proofs.lemmas.Option.{same_Some, none-some}
 use Rattle.psos_caps.specs.Capability.{Capability}
 use Rattle.psos_words.specs.declared.word.Word.{Word}
 use Rattle.psos_words.specs.declared.word.Word.TheVariants.{Data}
@@ -13,7 +12,7 @@ use Rattle.psos_calls.specs.declared.frame.Frame.{Frame}
 use Rattle.psos_calls.specs.User.{User}
 use Rattle.psos_model.specs.declared.place.Place.TheVariants.{FrameReg}
 use Rattle.psos_model.specs.Places.{cap_in, own_cap, frame_at}
-use Rattle.psos_laws.specs.Arrivals.{IsFull, AreFull, AreCallers}
+use Rattle.psos_laws.specs.Arrivals.{AreFull, AreCallers}
 use Rattle.psos_laws.proofs.ArrivesOwn.{no_frame}
 
 -- one word more agrees

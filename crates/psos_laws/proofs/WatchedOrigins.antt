@@ -1,8 +1,7 @@
 -- The origins that are kept with a legal run. States docs/promises.md, "Origins".
-use Rattle.std.proofs.Common.{◌≡◌, ℕ, ◌+◌, ◌≤◌, ◌<◌, List, [], ◌∷◌, ◌++◌, length, slice_get, Some, refl, sym, ap, subst, ◌∙◌, arith}
+use Rattle.std.proofs.Common.{◌≡◌, ℕ, ◌+◌, ◌<◌, List, [], ◌∷◌, length, slice_get, sym, ap, subst, ◌∙◌, arith}
 use Rattle.std.specs.Prelude.{◌^◌}
 use Rattle.psos_calls.specs.Script.{Script, IsWellFormed}
-use Rattle.psos_calls.specs.User.{User}
 use Rattle.psos_model.specs.Flat.{Flat}
 use Rattle.psos_model.specs.Answer.{answer}
 use Rattle.psos_model.specs.Boot.{boot}
