@@ -39,5 +39,10 @@ pub mod ArrivesThere
 pub mod FairThere
 pub mod PlacesThere
 pub mod PlacesRuns
+pub mod ArrivalsWords
+pub mod ArrivalsTold
+pub mod ArrivalsFrames
+pub mod ArrivalsKept
+pub mod WatchedOrigins
 pub mod WatchedRuns
 pub mod BootConfined

@@ -24,19 +24,19 @@ pub record AreGoing (s : Script) (users : List User) : Type 0 where
   pub all : length users ≡ length s.users
 
 -- a user that is there
-record HasUser (users : List User) (u : ℕ) : Type 0 where
-  row : User
-  there : slice_get users u ≡ Some row
+pub record HasUser (users : List User) (u : ℕ) : Type 0 where
+  pub row : User
+  pub there : slice_get users u ≡ Some row
 
 -- who has a request left is there
-left_there : (s : Script) (users : List User) (u : ℕ) → has_left s users u ≡ true → HasUser users u
+pub left_there : (s : Script) (users : List User) (u : ℕ) → has_left s users u ≡ true → HasUser users u
 left_there s users u left = by_user (slice_get users u) refl left
   where
     by_user : (o : Option User) → slice_get users u ≡ o → if_there o false (λ x. is_left s users x) ≡ true → HasUser users u
     by_user None e h = absurd (subst (λ b. cond b ⊥ ⊤) h tt)
     by_user (Some x) e h = record { row = x; there = e }
 
-asks_in : (s : Script) (users : List User) (x : User) (frames : List Frame) → x.frames ≡ frames → is_left s users x ≡ true → AsksIn s x frames
+pub asks_in : (s : Script) (users : List User) (x : User) (frames : List Frame) → x.frames ≡ frames → is_left s users x ≡ true → AsksIn s x frames
 asks_in s users x [] is left = left_within s users x is left
 asks_in s users x (q ∷ outer) is left = tt
 
@@ -47,7 +47,7 @@ pick (x ∷ xs) zero h = (x, refl)
 pick (x ∷ xs) (suc k) h = pick xs k (omega (arith, h))
 
 -- so it asks something
-asks : (s : Script) (x : User) (frames : List Frame) → HasLine s frames → AsksIn s x frames → (r : Request) × (next_in s x frames ≡ Some r)
+pub asks : (s : Script) (x : User) (frames : List Frame) → HasLine s frames → AsksIn s x frames → (r : Request) × (next_in s x frames ≡ Some r)
 asks s x [] line h = pick (requests_of (user_script s x.number)) x.answered h
 asks s x (q ∷ outer) line h = pick (body_of s q.label) q.line line
 

@@ -6,4 +6,5 @@ pub mod Trails
 pub mod Sealed
 pub mod Laws
 pub mod SoundParts
+pub mod Arrivals
 pub mod Watched

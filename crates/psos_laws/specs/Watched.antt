@@ -7,6 +7,8 @@ use Rattle.psos_model.specs.Answer.{Answered}
 use Rattle.psos_model.specs.Boot.{boot}
 use Rattle.psos_model.specs.Run.{IsLegalFrom, run}
 use Rattle.psos_laws.specs.declared.watched.Watched as state
+use Rattle.psos_laws.specs.History.{history}
+use Rattle.psos_laws.specs.Arrivals.{Tells}
 
 abbrev pub Watched : Type 0
 Watched = state.Watched
@@ -23,11 +25,12 @@ order_of w = w.order.items
 abbrev pub flat_of : Watched → Flat
 flat_of w = w.flat
 
--- the flat state is that of a legal order of a well-formed script
+-- the flat state is that of a legal order of a well-formed script, and what is kept tells the origins of its history
 pub record IsWatched (w : Watched) : Type 0 where
   pub formed : IsWellFormed (script_of w)
   pub legal : IsLegalFrom (script_of w) (boot (script_of w)) (order_of w)
   pub state : flat_of w ≡ run (script_of w) (order_of w)
+  pub tells : Tells (history (script_of w) (order_of w)) (flat_of w) w.origins
 
 -- nothing changed
 pub record IsSame (a b : Watched) : Type 0 where

@@ -4,8 +4,13 @@
 //! which place its user had it.
 #![tactic(auto)]
 
+mod arrival;
+mod arrivals;
+mod coming;
+mod held;
 mod orders;
 mod origin;
+mod origins;
 mod places;
 mod sound;
 mod starts;

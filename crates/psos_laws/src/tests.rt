@@ -4,8 +4,10 @@ ghost use Rattle.psos_calls.specs.Request.{InRange};
 ghost use Rattle.psos_calls.specs.Script.{IsUserScript, IsWellFormed};
 ghost use Rattle.psos_laws.specs.Watched.{script_of, IsWatched};
 
-use crate::Watched;
-use psos_calls::{Line, Reply, Request, Script, UserText};
+use crate::{Origin, Watched, Way};
+use psos_calls::{Line, Reply, Request, Right, Script, UserText};
+use psos_caps::Uid;
+use psos_model::Place;
 use psos_text::Name;
 use std::alloc::Global;
 use std::test::Fail;
@@ -79,6 +81,57 @@ fn next_line(
     Ok(parts(&line))
 }
 
+// An origin, in short.
+#[derive(Clone, Copy, PartialEq, Eq, Debug)]
+enum Short {
+    // The place holds no capability.
+    Nowhere,
+    Boot,
+    // Made, with its stamp.
+    Made(u32),
+    // The stamp, and the register that it was copied from.
+    Register(u32, u8, u8),
+    // The stamp, and the word of a segment that it was read from by the right read.
+    Word(u32, u64, u16),
+    Other,
+}
+
+fn in_short(origin: Option<Origin>) -> Short {
+    let Some(origin) = origin else {
+        return Short::Nowhere;
+    };
+    let Some(stamp) = origin.stamp else {
+        return Short::Boot;
+    };
+    match origin.way {
+        Way::Made => Short::Made(stamp),
+        Way::Copied { place, by } => copied(stamp, place, by),
+        Way::Boot => Short::Other,
+    }
+}
+
+fn copied(stamp: u32, place: Place, by: Option<Right>) -> Short {
+    match (place, by) {
+        (Place::Reg { user, i }, None) => Short::Register(stamp, user, i),
+        (Place::SegWord { uid, i }, Some(Right::Read)) => Short::Word(stamp, uid.0, i),
+        _ => Short::Other,
+    }
+}
+
+// The origins of two registers of alice, of two of bob, and of the first word of alice's scratch segment.
+fn origins(run: &Watched) -> [Short; 5]
+    requires { IsWatched run.now }
+{
+    let word = Place::SegWord { uid: Uid(6), i: 0 };
+    [
+        in_short(run.origin(&Place::Reg { user: 0, i: 0 })),
+        in_short(run.origin(&Place::Reg { user: 0, i: 5 })),
+        in_short(run.origin(&Place::Reg { user: 1, i: 4 })),
+        in_short(run.origin(&Place::Reg { user: 1, i: 5 })),
+        in_short(run.origin(&word)),
+    ]
+}
+
 #[test]
 fn two_users_in_turn(rt: HostRuntime) -> Result<(), Fail> {
     let alloc = rt.alloc();
@@ -95,5 +148,15 @@ fn two_users_in_turn(rt: HostRuntime) -> Result<(), Fail> {
     assert_eq!(rt; fourth, (0, 2, 0, 3, Told::Cap(1, 0x00df)));
     assert!(rt; run.order() == [0, 1, 1, 0].as_slice());
     assert!(rt; run.flat().finished(&script));
+    let told = origins(&run);
+    assert!(rt;
+        told == [
+            Short::Boot,
+            Short::Word(3, 6, 0),
+            Short::Made(1),
+            Short::Nowhere,
+            Short::Register(0, 0, 0)
+        ]
+    );
     Ok(())
 }

@@ -8,22 +8,26 @@ ghost use Rattle.psos_model.specs.Run.{run, has_left};
 ghost use Rattle.psos_model.specs.Guarded.{IsGuarded};
 ghost use Rattle.psos_model.specs.Kept.{IsKept};
 ghost use Rattle.psos_model.specs.Sound.{IsSound};
-ghost use Rattle.psos_laws.specs.History.{history};
+ghost use Rattle.psos_laws.specs.History.{history, origin};
 ghost use Rattle.psos_laws.specs.Trails.{IsConfined};
 ghost use Rattle.psos_laws.specs.Laws.{IsLawful};
 ghost use Rattle.psos_laws.specs.Watched.{script_of, order_of, flat_of, IsWatched, IsSame, IsLine};
 
+use crate::Origin;
+use crate::held::cap_at;
+use crate::origins::Origins;
 use psos_calls::{Line, Script};
-use psos_model::Flat;
+use psos_model::{Flat, Place};
 use std::alloc::{AllocError, Global};
 use std::snapshot::Snapshot;
 
-/// The flat state of a run, with the users that were answered so far and, for clauses alone, the script that boot took
-/// (docs/promises.md, "Runs").
+/// The flat state of a run, with the users that were answered so far, what each request put where, and, for clauses alone,
+/// the script that boot took (docs/promises.md, "Runs" and "Origins").
 #[derive(Drop)]
 pub struct Watched {
     flat: Flat,
     order: Vec<u8>,
+    origins: Origins,
     script: Snapshot<Script>,
 }
 
@@ -36,9 +40,11 @@ impl Watched {
         ensures watched { IfOk result (λ w. IsWatched w) }
     {
         let flat = Flat::boot(alloc, script)?;
+        let origins = Origins::new(alloc)?;
         Ok(Watched {
             flat,
             order: Vec::new(alloc),
+            origins,
             script: Snapshot::of(script),
         })
     }
@@ -55,6 +61,17 @@ impl Watched {
         ensures { result.now ≡ order_of self.now }
     {
         self.order.as_slice()
+    }
+
+    /// The origin of the capability at a place, and none exactly where the place holds no capability: the stamp of the
+    /// request that put it there, and how it came, or that it was there at boot (docs/promises.md, "Origins"). It takes
+    /// no memory, and as long as the requests since then.
+    pub fn origin(&self, place: &Place) -> Option<Origin>
+        requires { IsWatched self.now }
+        ensures { result ≡ origin (history (script_of self.now) (order_of self.now)) (flat_of self.now) place.now }
+    {
+        let cap = cap_at(&self.flat, self.origins.callers.as_slice(), place)?;
+        Some(self.origins.told(place, cap))
     }
 
     /// Answers the next request of a user that has one left (`Flat::left`), and gives its line; the stamp is the number
@@ -78,8 +95,10 @@ impl Watched {
     {
         let stamp = self.order.len() as u32;
         self.order.try_reserve(1)?;
+        let coming = self.origins.coming(alloc, &self.flat, script, user)?;
         let answer = self.flat.step(alloc, script, user)?;
         self.order.push_reserved(user);
+        self.origins.keep(coming, user, &self.flat);
         Ok(Line {
             user,
             n: answer.n,

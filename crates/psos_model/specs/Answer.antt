@@ -1,5 +1,6 @@
 -- What each request answers and changes. States docs/requests.md, "Answers".
 use Rattle.std.specs.Prelude.{ℕ, slice_get, slice_set, Option, Some, None}
+use Rattle.std.specs.Option.{option_map}
 use Rattle.psos_calls.specs.declared.request.Request.{Request}
 use Rattle.psos_calls.specs.declared.request.Request.TheVariants.{Mint, Restrict, Set, Move, Add, Read, Write, Window, Length, Lookup, Bind, Unbind, List, Impl, MkSeg, MkDir, MkType, MkObj, MkCode, Delete, Send, Recv, Call, Path, Find}
 use Rattle.psos_calls.specs.declared.reply.Reply.{Reply}
@@ -65,3 +66,7 @@ answer_to s f u x (Some request) =
 -- user u's next request is answered
 abbrev pub answer : Script → Flat → ℕ → Flat × Answered
 answer s f u = if_there (slice_get f.users u) (f, silence u) (λ x. answer_to s f u x (next_request s x))
+
+-- what user u's next request will do
+abbrev pub next_outcome : Script → Flat → ℕ → Option Outcome
+next_outcome s f u = if_there (slice_get f.users u) None (λ x. option_map (outcome f x) (next_request s x))

@@ -4,10 +4,13 @@ ghost use Rattle.std.specs.Option.{option_map};
 ghost use Rattle.psos_table.specs.Table.{at};
 ghost use Rattle.psos_words.specs.Words.{word_at};
 ghost use Rattle.psos_model.specs.Flat.{flat_view, words_of};
+ghost use Rattle.psos_model.specs.Places.{rep_cap};
 ghost use Rattle.psos_model.specs.Within.{IsWithin, as_view};
 
+use crate::issue::full;
 use crate::{Directory, FlatView, Mailbox, Objects, Segment, Users};
 use psos_calls::{CodeRow, Kind, WinRow};
+use psos_caps::Cap;
 use psos_table::Table;
 use psos_words::Word;
 
@@ -75,6 +78,19 @@ impl Flat {
         match self.segments.get(uid) {
             Some(segment) => segment.word(i),
             None => Word::Data(0),
+        }
+    }
+
+    /// The capability on the representation of an object or of a directory, if there is one (docs/system.md, "Places").
+    pub fn rep_cap(&self, uid: u64) -> Option<Cap>
+        ensures { result ≡ rep_cap (at self.now.objects uid) (at self.now.dirs uid) }
+    {
+        match self.objects.get(uid) {
+            Some(object) => Some(full(object.rep)),
+            None => match self.dirs.get(uid) {
+                Some(dir) => Some(full(dir.rep)),
+                None => None,
+            },
         }
     }
 }

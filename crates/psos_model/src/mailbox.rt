@@ -1,5 +1,6 @@
 // A mailbox.
 ghost use Rattle.std.specs.Prelude.{◌≡◌, [], ◌∷◌, ◌++◌, length, drop, slice_get, OnOk, OnErr};
+ghost use Rattle.psos_words.specs.Words.{word_at};
 
 use psos_words::Word;
 use std::alloc::{AllocError, Global};
@@ -42,6 +43,16 @@ impl Mailbox {
         ensures { result ≡ slice_get self.now 0 }
     {
         self.words.first().copied()
+    }
+
+    /// Word i; past the end, data 0.
+    pub fn word(&self, i: usize) -> Word
+        ensures { result ≡ word_at self.now i }
+    {
+        match self.words.get(i) {
+            Some(word) => *word,
+            None => Word::Data(0),
+        }
     }
 
     /// A word goes last into it. A refusal is for memory and changes nothing.

@@ -72,8 +72,9 @@ pub(crate) fn own(place: Place) -> Option<Source>
     Some(Source { place, by: None })
 }
 
-/// The register that a request names.
-pub(crate) fn reg_place(me: &Private, i: u8) -> Place
+/// The place of a register that a request of this user names: of the innermost open body, or of the user
+/// (docs/system.md, "Places").
+pub fn reg_place(me: &Private, i: u8) -> Place
     ensures { result ≡ reg_place me.now me.now.frames i }
 {
     let depth = me.open_bodies();

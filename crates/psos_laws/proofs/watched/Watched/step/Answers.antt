@@ -1,5 +1,7 @@
-use Rattle.std.proofs.Common.{[], ◌∷◌, ◌++◌, refl, ap, ◌∙◌, arith}
+use Rattle.std.proofs.Common.{[], ◌∷◌, ◌++◌, refl, sym, ap, ◌∙◌, arith}
 use Rattle.psos_laws.proofs.WatchedRuns.{laws_of, laws_same, laws_more, laws_few, laws_step, laws_kept, laws_confined, laws_back}
+use Rattle.psos_laws.specs.History.{history}
+use Rattle.psos_laws.proofs.ArrivalsKept.{tells_same, tells_as, tells_step, small_boxes, one_of_eight}
 use Rattle.psos_laws.proofs.watched.Watched.step.Goals as goal
 
 pub overflow_cast-stamp : goal.overflow_cast-stamp
@@ -54,6 +56,66 @@ returns-in_err-try_reserve-clause-lawful c =
     let was = laws_of w.script.value t w.order.items w.flat
     (record { formed = c.requires.watched.formed; legal = c.requires.watched.legal; state = c.requires.watched.state; script = c.requires.script }) in
     let now = laws_same t w.order.items c.try_reserve.new.self.items w.flat w.flat c.in_err-try_reserve.ensures.items refl was in
+    now.lawful
+
+pub coming-requires-clause-state : goal.coming-requires-clause-state
+coming-requires-clause-state c =
+    let w = c.args.self.now in
+    let t = c.args.script.now in
+    let was = laws_of w.script.value t w.order.items w.flat
+    (record { formed = c.requires.watched.formed; legal = c.requires.watched.legal; state = c.requires.watched.state; script = c.requires.script }) in
+    laws_step t w.order.items w.flat c.args.user c.requires.left was
+
+pub coming-requires-clause-few : goal.coming-requires-clause-few
+coming-requires-clause-few c =
+    let w = c.args.self.now in
+    let t = c.args.script.now in
+    let was = laws_of w.script.value t w.order.items w.flat
+    (record { formed = c.requires.watched.formed; legal = c.requires.watched.legal; state = c.requires.watched.state; script = c.requires.script }) in
+    small_boxes t w.flat was.sound
+
+pub keep-requires-clause-user : goal.keep-requires-clause-user
+keep-requires-clause-user c =
+    let w = c.args.self.now in
+    let t = c.args.script.now in
+    let was = laws_of w.script.value t w.order.items w.flat
+    (record { formed = c.requires.watched.formed; legal = c.requires.watched.legal; state = c.requires.watched.state; script = c.requires.script }) in
+    one_of_eight t w.flat c.args.user was.formed was.sound c.requires.left
+
+pub returns-in_err-coming-clause-sound : goal.returns-in_err-coming-clause-sound
+returns-in_err-coming-clause-sound c =
+    let w = c.args.self.now in
+    let t = c.args.script.now in
+    let was = laws_of w.script.value t w.order.items w.flat
+    (record { formed = c.requires.watched.formed; legal = c.requires.watched.legal; state = c.requires.watched.state; script = c.requires.script }) in
+    let now = laws_same t w.order.items c.try_reserve.new.self.items w.flat w.flat c.in_ok-try_reserve.ensures.items refl was in
+    now.sound
+
+pub returns-in_err-coming-clause-guarded : goal.returns-in_err-coming-clause-guarded
+returns-in_err-coming-clause-guarded c =
+    let w = c.args.self.now in
+    let t = c.args.script.now in
+    let was = laws_of w.script.value t w.order.items w.flat
+    (record { formed = c.requires.watched.formed; legal = c.requires.watched.legal; state = c.requires.watched.state; script = c.requires.script }) in
+    let now = laws_same t w.order.items c.try_reserve.new.self.items w.flat w.flat c.in_ok-try_reserve.ensures.items refl was in
+    now.sound.guarded
+
+pub returns-in_err-coming-clause-kept : goal.returns-in_err-coming-clause-kept
+returns-in_err-coming-clause-kept c =
+    let w = c.args.self.now in
+    let t = c.args.script.now in
+    let was = laws_of w.script.value t w.order.items w.flat
+    (record { formed = c.requires.watched.formed; legal = c.requires.watched.legal; state = c.requires.watched.state; script = c.requires.script }) in
+    let now = laws_same t w.order.items c.try_reserve.new.self.items w.flat w.flat c.in_ok-try_reserve.ensures.items refl was in
+    laws_kept t c.try_reserve.new.self.items w.flat now
+
+pub returns-in_err-coming-clause-lawful : goal.returns-in_err-coming-clause-lawful
+returns-in_err-coming-clause-lawful c =
+    let w = c.args.self.now in
+    let t = c.args.script.now in
+    let was = laws_of w.script.value t w.order.items w.flat
+    (record { formed = c.requires.watched.formed; legal = c.requires.watched.legal; state = c.requires.watched.state; script = c.requires.script }) in
+    let now = laws_same t w.order.items c.try_reserve.new.self.items w.flat w.flat c.in_ok-try_reserve.ensures.items refl was in
     now.lawful
 
 pub returns-in_err-answer-clause-sound : goal.returns-in_err-answer-clause-sound
@@ -141,7 +203,18 @@ returns-clause-watched c =
     let now = laws_more t w.order.items c.push_reserved.new.self.items w.flat c.step.new.self c.args.user c.requires.left
     (c.push_reserved.ensures.items ∙ ap (λ us. us ++ c.args.user ∷ []) c.in_ok-try_reserve.ensures.items) c.in_ok-answer.ensures.state was in
     let back = laws_back w.script.value t c.push_reserved.new.self.items c.step.new.self c.requires.script now in
-    record { formed = back.formed; legal = back.legal; state = back.state }
+    let k = c.in_ok-coming.coming in
+    let kept = tells_same (history t w.order.items) w.flat w.flat w.origins c.coming.new.self refl c.in_ok-coming.ensures.past c.in_ok-coming.ensures.callers
+    (tells_as w.script.value t w.order.items w.order.items w.flat w.origins (sym c.requires.script) refl c.requires.watched.tells) in
+    let more = tells_step t w.order.items w.flat c.step.new.self c.args.user c.coming.new.self c.keep.new.self k was.formed was.sound was.state c.requires.left c.in_ok-answer.ensures.state
+    kept c.in_ok-coming.ensures.coming c.keep.ensures in
+    record {
+      formed = back.formed;
+      legal = back.legal;
+      state = back.state;
+      tells = tells_as t w.script.value (w.order.items ++ c.args.user ∷ []) c.push_reserved.new.self.items c.step.new.self c.keep.new.self c.requires.script
+          (c.push_reserved.ensures.items ∙ ap (λ us. us ++ c.args.user ∷ []) c.in_ok-try_reserve.ensures.items) more;
+    }
 
 pub returns-clause-confined : goal.returns-clause-confined
 returns-clause-confined c =
