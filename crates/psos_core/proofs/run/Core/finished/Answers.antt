@@ -1,4 +1,4 @@
-use Rattle.std.proofs.Common.{◌≡◌, ℕ, Bool, false, not, Option, sym, ap, subst, ◌∙◌}
+use Rattle.std.proofs.Common.{◌≡◌, ℕ, not, Option, sym, ap, subst, ◌∙◌}
 use Rattle.std.specs.Prelude.{◌||◌, IsTrue}
 use Rattle.std.specs.List.{list_all}
 use Rattle.psos_calls.specs.User.{User}

@@ -1,4 +1,4 @@
-use Rattle.std.proofs.Common.{ℕ, length, sym, ap, ◌∙◌, arith}
+use Rattle.std.proofs.Common.{ℕ, sym, ap, ◌∙◌, arith}
 use Rattle.std.specs.Prelude.{slice_index_or}
 use Rattle.psos_core.specs.declared.upcoming.Upcoming.TheVariants as upcoming
 use Rattle.psos_core.specs.Plans.{next_for, may_go}

@@ -1,4 +1,4 @@
-use Rattle.std.proofs.Common.{◌≡◌, ◌≤◌, List, [], length, None, replicate, refl, sym, ap, subst, ◌∙◌, arith}
+use Rattle.std.proofs.Common.{◌≡◌, List, [], length, replicate, sym, ap, subst, ◌∙◌}
 use Rattle.psos_calls.specs.Script.{Script}
 use Rattle.psos_calls.specs.User.{User}
 use Rattle.psos_model.specs.Run.{current_phase}
