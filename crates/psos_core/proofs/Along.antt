@@ -25,7 +25,7 @@ use Rattle.psos_laws.proofs.OrdersEnd.{orders_end}
 use Rattle.psos_laws.proofs.OrdersRun.{AreGoing, turn, turn_going, start_going}
 use Rattle.psos_core.specs.UnderWay.{phases_most, asked_before, due, IsPast, IsAt, HasServed}
 use Rattle.psos_model.specs.Serial.{IsCoreStart}
-use Rattle.psos_core.specs.Serving.{Asks, IsServed, IsRunFrom, IsWholeRun}
+use Rattle.psos_core.specs.Serving.{Asks, IsServed, IsFrontFrom, IsRunFrom, IsWholeRun}
 use Rattle.psos_core.proofs.Requests.{step_is}
 use Rattle.psos_core.proofs.Orders.{replay_from-more, entries_from-more, run_from-more, serial_more, serial_legal, order_of-more, order_length}
 use Rattle.psos_core.proofs.AllRuns.{runs_stand, runs_few}
@@ -193,19 +193,27 @@ at_start s y f now h e = record {
   place = subst (λ (xs : List User). IsAt s xs 0 0) (sym (ap (λ (z : System). z.users) e ∙ h.stands.users)) (at_first s f.users (λ u x there. (h.start.users u x there).frames));
 }
 
+-- the requests so far are a front of a run
+pub front_so_far : (s : Script) (y : System) (f : Flat) (now : System) (entries : List Entry) (p u : ℕ) → IsCoreStart s y f → HasServed s y f now entries p u → IsFrontFrom s y f entries
+front_so_far s y f now entries p u start h =
+    let order = order_of entries in
+    let legal = serial_legal s order f h.serial in
+    record {
+      legal = legal;
+      recorded = h.recorded;
+      answered = ap (map answered_of) h.recorded ∙ (runs_stand s y f order start legal).answered;
+    }
+
 pub at_end : (s : Script) (y : System) (f : Flat) (now : System) (entries : List Entry) (p : ℕ) → IsCoreStart s y f → p ≡ phases_most s.users → HasServed s y f now entries p 0 → IsRunFrom s y f (IsSerialFrom s f) entries now
 at_end s y f now entries p start all h =
     let order = order_of entries in
-    let legal = serial_legal s order f h.serial in
-    let ran = runs_stand s y f order start legal in
-    let stands = subst (λ (z : System). StandsFor z (run_from s f order)) (sym h.replayed) ran.stands in
+    let front = front_so_far s y f now entries p 0 start h in
+    let stands = subst (λ (z : System). StandsFor z (run_from s f order)) (sym h.replayed) (runs_stand s y f order start front.legal).stands in
     record {
-      legal = legal;
+      front = front;
       over = λ u. ap (λ (us : List User). has_left s us u) (sym stands.users) ∙ nobody_left s now.users p (omega (arith, all)) h.place u;
-      recorded = h.recorded;
-      answered = ap (map answered_of) h.recorded ∙ ran.answered;
       ordered = h.serial;
-      few = omega (arith, ap calls_of h.recorded, runs_few s y f order start legal, orders_end s f order start.well_formed start.start legal);
+      few = omega (arith, ap calls_of h.recorded, runs_few s y f order start front.legal, orders_end s f order start.well_formed start.start front.legal);
       replayed = h.replayed;
       stands = stands;
       lawful = runs_are_lawful s f order start.well_formed start.start.sound;
@@ -214,8 +222,8 @@ at_end s y f now entries p start all h =
 -- from boot
 pub whole_run : (s : Script) (now : System) (InOrder : List ℕ → Type 0) (entries : List Entry) → IsRunFrom s (boot_system s) (boot s) InOrder entries now → IsWholeRun s InOrder entries now
 whole_run s now InOrder entries h = record {
-  complete = record { legal = h.legal; over = h.over };
-  faithful = record { replayed = h.recorded; answered = h.answered };
+  complete = record { legal = h.front.legal; over = h.over };
+  faithful = record { replayed = h.front.recorded; answered = h.front.answered };
   ordered = h.ordered;
   few = h.few;
   replayed = h.replayed;

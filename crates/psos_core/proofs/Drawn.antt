@@ -1,6 +1,7 @@
 -- A run in drawn turns, on its way and at its end. States docs/program.md, "Turns".
-use Rattle.std.proofs.Common.{◌≡◌, ℕ, zero, suc, ◌+◌, ◌-◌, ◌<◌, ◌≤◌, Bool, true, false, cond, List, [], ◌∷◌, ◌++◌, length, map, drop, get_or, append_assoc, Option, Some, None, refl, sym, ap, ◌∙◌, subst, arith}
-use Rattle.std.specs.Prelude.{◌%◌, ◌==◌, slice_get, IsTrue}
+use Rattle.std.proofs.Common.{◌≡◌, ℕ, zero, suc, ◌+◌, ◌-◌, ◌<◌, ◌≤◌, Bool, true, false, cond, List, [], ◌∷◌, ◌++◌, length, map, drop, get_or, append_assoc, Option, Some, None, refl, sym, ap, ◌∙◌, ◌⊎◌, inl, inr, subst, arith}
+use Rattle.std.specs.Prelude.{◌%◌, ◌==◌, ◌&&◌, not, slice_get, IsTrue}
+use Rattle.std.specs.List.{list_all}
 use Rattle.std.proofs.lemmas.Nat.{mod_below}
 use Rattle.std.proofs.lemmas.Bool.{true≢false, eqb-true}
 use Rattle.std.proofs.lemmas.Option.{none-some, same_Some, slice_get_within, slice_get-get_or}
@@ -14,6 +15,7 @@ use Rattle.psos_model.specs.Output.{calls_of}
 use Rattle.psos_model.specs.StandsFor.{StandsFor}
 use Rattle.psos_model.specs.Core.{CoreState, core_of, core_step, core_after, is_enabled, AreEnabled}
 use Rattle.psos_model.specs.Turns.{enabled_in, picked, AreDrawn, IsTurnsOrderFrom}
+use Rattle.psos_model.proofs.Leftover.{fails}
 use Rattle.psos_laws.proofs.OrdersEnd.{orders_end}
 use Rattle.psos_laws.proofs.PlacesRuns.{runs_are_lawful}
 use Rattle.psos_events.specs.Events.{system_in, gone}
@@ -21,9 +23,8 @@ use Rattle.psos_events.proofs.Ended.{events_end}
 use Rattle.psos_events.proofs.Measured.{events_go_on}
 use Rattle.psos_events.proofs.Progress.{never_stuck}
 use Rattle.psos_events.proofs.Kept.{stands_now}
-use Rattle.psos_core.specs.declared.ongoing.Ongoing.{Ongoing}
-use Rattle.psos_core.specs.Events.{HasLed, IsUnderWay, MayStep, HasStepped}
-use Rattle.psos_core.specs.Serving.{Start, IsRunFrom}
+use Rattle.psos_core.specs.Events.{HasLed, IsUnderWay, MayHappen}
+use Rattle.psos_core.specs.Serving.{Start, IsFrontFrom, IsRunFrom}
 use Rattle.psos_core.proofs.AllRuns.{runs_few}
 use Rattle.psos_core.proofs.Reached.{done}
 
@@ -38,16 +39,25 @@ enabled_more s c [] u h may = (may, tt)
 enabled_more s c (v ∷ us) u h may = (h.0, enabled_more s (core_step s c v) us u h.1 may)
 
 -- user u's event has led on
-pub led_more : (s : Script) (c d : CoreState) (o p : Ongoing) (start : Start) (turns : List ℕ) (u : ℕ) → HasLed s c o start turns → IsTrue (is_enabled s c u) → HasStepped s c u d p
-    → HasLed s d p start (turns ++ u ∷ [])
-led_more s c d o p start turns u h may stepped =
+pub led_more : (s : Script) (c d : CoreState) (start : Start) (turns : List ℕ) (u : ℕ) → HasLed s c start turns → IsTrue (is_enabled s c u) → d ≡ core_step s c u → HasLed s d start (turns ++ u ∷ [])
+led_more s c d start turns u h may stepped =
     let base = core_of start.system in
     record {
       starts = h.starts;
       enabled = enabled_more s base turns u h.enabled (subst (λ (e : CoreState). IsTrue (is_enabled s e u)) h.state may);
-      state = stepped.state ∙ (ap (λ (e : CoreState). core_step s e u) h.state ∙ sym (after_more s base turns u));
-      kept = stepped.kept;
+      state = stepped ∙ (ap (λ (e : CoreState). core_step s e u) h.state ∙ sym (after_more s base turns u));
     }
+
+-- a run that stopped at it was led as far, or so much further
+pub led_still : (s : Script) (c d : CoreState) (start : Start) (turns : List ℕ) (u : ℕ) → HasLed s c start turns → IsTrue (is_enabled s c u) → (d ≡ c) ⊎ (d ≡ core_step s c u)
+    → HasLed s d start turns ⊎ HasLed s d start (turns ++ u ∷ [])
+led_still s c d start turns u h may (inl same) = inl (record { starts = h.starts; enabled = h.enabled; state = same ∙ h.state })
+led_still s c d start turns u h may (inr stepped) = inr (led_more s c d start turns u h may stepped)
+
+-- either way events have led there
+pub way_on : (s : Script) (d : CoreState) (start : Start) (turns : List ℕ) (u : ℕ) → HasLed s d start turns ⊎ HasLed s d start (turns ++ u ∷ []) → IsUnderWay s d
+way_on s d start turns u (inl h) = record { start = start; turns = turns; after = h }
+way_on s d start turns u (inr h) = record { start = start; turns = turns ++ u ∷ []; after = h }
 
 -- the generator after the turns of these users
 abbrev pub drawn_at : ℕ → List ℕ → ℕ
@@ -66,22 +76,22 @@ drawn_more s c x (v ∷ us) u h one = (h.0, drawn_more s (core_step s c v) (next
 -- ---- the turns so far
 
 -- events have led here, each of a user that was drawn
-pub record IsDrawn (s : Script) (c : CoreState) (o : Ongoing) (start : Start) (seed x : ℕ) : Type 0 where
+pub record IsDrawn (s : Script) (c : CoreState) (start : Start) (seed x : ℕ) : Type 0 where
   pub turns : List ℕ
-  pub after : HasLed s c o start turns
+  pub after : HasLed s c start turns
   pub drawn : AreDrawn s (core_of start.system) (first_draw seed) turns
   pub here : x ≡ drawn_at (first_draw seed) turns
 
-abbrev pub under_way : (s : Script) (c : CoreState) (o : Ongoing) (start : Start) (seed x : ℕ) → IsDrawn s c o start seed x → IsUnderWay s c o
-under_way s c o start seed x h = record { start = start; turns = h.turns; after = h.after }
+abbrev pub under_way : (s : Script) (c : CoreState) (start : Start) (seed x : ℕ) → IsDrawn s c start seed x → IsUnderWay s c
+under_way s c start seed x h = record { start = start; turns = h.turns; after = h.after }
 
 -- ---- who may go on
 
 -- each user stands at the place of its number
-pub numbers : (s : Script) (c : CoreState) (o : Ongoing) (h : IsUnderWay s c o) (u : ℕ) (x : User) → slice_get c.users u ≡ Some x → x.number ≡ u
-numbers s c o h u x here =
+pub numbers : (s : Script) (c : CoreState) (h : IsUnderWay s c) (u : ℕ) (x : User) → slice_get c.users u ≡ Some x → x.number ≡ u
+numbers s c h u x here =
     let f = h.start.flat in
-    let d = done s c o h in
+    let d = done s c h in
     let now = stands_now s h.start.system f c h.after.starts d in
     (now.sound.users u x (ap (λ (us : List User). slice_get us u) (sym (d.users ∙ now.stands.users)) ∙ here)).number
 
@@ -111,18 +121,32 @@ there s c u may = by_user (slice_get c.users u) refl
         let none : is_enabled s c u ≡ false = rw nothing refl in
         absurd (true≢false (sym may ∙ none))
 
+-- where not all fail a test, one passes it
+pub somebody_left : {X : Type 0} (test : X → Bool) (xs : List X) → list_all (fails test) xs ≡ false → (u : ℕ) × (if_there (slice_get xs u) false test ≡ true)
+somebody_left test [] h = absurd (true≢false h)
+somebody_left test (x ∷ xs) h = by_test (test x) refl (somebody_left test xs) h
+  where
+    by_test : (b : Bool) → test x ≡ b → (list_all (fails test) xs ≡ false → (u : ℕ) × (if_there (slice_get xs u) false test ≡ true)) → (not b && list_all (fails test) xs) ≡ false
+        → (u : ℕ) × (if_there (slice_get (x ∷ xs) u) false test ≡ true)
+    by_test true e rest h = (0, e)
+    by_test false e rest h = (suc (rest h).0, (rest h).1)
+
+-- while a user has a request left, some user may go on
+pub somebody_may : (s : Script) (c : CoreState) → IsUnderWay s c → (u : ℕ) → has_left s c.users u ≡ true → (v : ℕ) × IsTrue (is_enabled s c v)
+somebody_may s c h u left =
+    subst (λ (d : CoreState). has_left s d.users u ≡ true → (v : ℕ) × IsTrue (is_enabled s d v)) (sym h.after.state) (never_stuck s h.start.system h.start.flat h.turns h.after.starts h.after.enabled u) left
+
 -- so where nobody may go on, nobody has a request left
-pub over_now : (s : Script) (c : CoreState) (o : Ongoing) (h : IsUnderWay s c o) → enabled_in s c c.users ≡ [] → (u : ℕ) → has_left s c.users u ≡ false
-over_now s c o h none u = by_test (has_left s c.users u) refl
+pub over_now : (s : Script) (c : CoreState) (h : IsUnderWay s c) → enabled_in s c c.users ≡ [] → (u : ℕ) → has_left s c.users u ≡ false
+over_now s c h none u = by_test (has_left s c.users u) refl
   where
     by_test : (b : Bool) → has_left s c.users u ≡ b → b ≡ false
     by_test false e = refl
     by_test true e =
-        let stuck : (v : ℕ) × IsTrue (is_enabled s c v) =
-        subst (λ (d : CoreState). has_left s d.users u ≡ true → (v : ℕ) × IsTrue (is_enabled s d v)) (sym h.after.state) (never_stuck s h.start.system h.start.flat h.turns h.after.starts h.after.enabled u) e in
-        let one = there s c stuck.0 stuck.1 in
-        let not_one = none_may s c c.users stuck.0 one.user none one.here in
-        absurd (true≢false (sym stuck.1 ∙ (ap (is_enabled s c) (sym (numbers s c o h stuck.0 one.user one.here)) ∙ not_one)))
+        let free = somebody_may s c h u e in
+        let one = there s c free.0 free.1 in
+        let not_one = none_may s c c.users free.0 one.user none one.here in
+        absurd (true≢false (sym free.1 ∙ (ap (is_enabled s c) (sym (numbers s c h free.0 one.user one.here)) ∙ not_one)))
 
 -- who is among those that may go on, may
 among_may : (s : Script) (c : CoreState) (xs : List User) (k u : ℕ) → slice_get (enabled_in s c xs) k ≡ Some u → is_enabled s c u ≡ true
@@ -136,12 +160,12 @@ among_may s c (z ∷ xs) k u here = by_test (λ k rest. among_may s c xs k u res
     by_test others false e k rest = others k rest
 
 -- the one that is drawn may go on
-pub drawn_may : (s : Script) (c : CoreState) (o : Ongoing) (h : IsUnderWay s c o) (x u : ℕ) → picked x (enabled_in s c c.users) ≡ Some u → MayStep s c o u
-drawn_may s c o h x u drawn =
+pub drawn_may : (s : Script) (c : CoreState) (h : IsUnderWay s c) (x u : ℕ) → picked x (enabled_in s c c.users) ≡ Some u → MayHappen s c u
+drawn_may s c h x u drawn =
     let may = among_may s c c.users (x % length (enabled_in s c c.users)) u drawn in
     let one = there s c u may in
     record {
-      user = omega (arith, slice_get_within c.users u one.user one.here, (done s c o h).users_all);
+      user = omega (arith, slice_get_within c.users u one.user one.here, (done s c h).users_all);
       under_way = h;
       enabled = may;
     }
@@ -197,23 +221,36 @@ picked_is us among slots x k n d empty all same many is tells some =
 
 -- ---- the end
 
+-- wherever events have led, the requests so far are a front of a run
+pub front_here : (s : Script) (c : CoreState) (start : Start) (turns : List ℕ) → HasLed s c start turns → IsFrontFrom s start.system start.flat c.entries
+front_here s c start turns h =
+    let d = done s c (record { start = start; turns = turns; after = h }) in
+    record {
+      legal = d.legal;
+      recorded = d.entries;
+      answered = ap (map answered_of) d.entries ∙ (stands_now s start.system start.flat c h.starts d).answered;
+    }
+
+-- also where the run stopped at an event
+pub front_on : (s : Script) (d : CoreState) (start : Start) (turns : List ℕ) (u : ℕ) → HasLed s d start turns ⊎ HasLed s d start (turns ++ u ∷ []) → IsFrontFrom s start.system start.flat d.entries
+front_on s d start turns u (inl h) = front_here s d start turns h
+front_on s d start turns u (inr h) = front_here s d start (turns ++ u ∷ []) h
+
 -- where nobody has a request left, the run is whole, and its order is that of the turns
-pub whole : (s : Script) (c : CoreState) (o : Ongoing) (start : Start) (seed x : ℕ) (h : IsDrawn s c o start seed x) → ((u : ℕ) → has_left s c.users u ≡ false)
+pub whole : (s : Script) (c : CoreState) (start : Start) (seed x : ℕ) (h : IsDrawn s c start seed x) → ((u : ℕ) → has_left s c.users u ≡ false)
     → IsRunFrom s start.system start.flat (IsTurnsOrderFrom s start.system seed) c.entries (system_in c)
-whole s c o start seed x h over =
+whole s c start seed x h over =
     let y = start.system in
     let f = start.flat in
     let order = order_of c.entries in
-    let d = done s c o (under_way s c o start seed x h) in
+    let d = done s c (under_way s c start seed x h) in
     let now = stands_now s y f c h.after.starts d in
     let users : c.users ≡ (run_from s f order).users = d.users ∙ now.stands.users in
     let left : system_in c ≡ replay_from s y order =
     subst (λ (e : CoreState). ((u : ℕ) → has_left s e.users u ≡ false) → system_in e ≡ replay_from s y (order_of e.entries)) (sym h.after.state) (events_end s y f h.turns h.after.starts h.after.enabled) over in
     record {
-      legal = d.legal;
+      front = front_here s c start h.turns h.after;
       over = λ u. ap (λ (us : List User). has_left s us u) (sym users) ∙ over u;
-      recorded = d.entries;
-      answered = ap (map answered_of) d.entries ∙ now.answered;
       ordered = record {
         turns = h.turns;
         drawn = h.drawn;
@@ -229,9 +266,9 @@ whole s c o start seed x h over =
 -- ---- one turn
 
 -- the user that was drawn has made its event
-pub one_turn : (s : Script) (c d : CoreState) (o p : Ongoing) (start : Start) (seed x u : ℕ) (h : IsDrawn s c o start seed x)
-    → picked (next_draw x) (enabled_in s c c.users) ≡ Some u → ((turns : List ℕ) → HasLed s c o start turns → HasLed s d p start (turns ++ u ∷ [])) → IsDrawn s d p start seed (next_draw x)
-one_turn s c d o p start seed x u h one made =
+pub one_turn : (s : Script) (c d : CoreState) (start : Start) (seed x u : ℕ) (h : IsDrawn s c start seed x)
+    → picked (next_draw x) (enabled_in s c c.users) ≡ Some u → ((turns : List ℕ) → HasLed s c start turns → HasLed s d start (turns ++ u ∷ [])) → IsDrawn s d start seed (next_draw x)
+one_turn s c d start seed x u h one made =
     let base = core_of start.system in
     let P : CoreState → ℕ → Type 0 = λ e z. picked (next_draw z) (enabled_in s e e.users) ≡ Some u in
     record {
@@ -242,9 +279,9 @@ one_turn s c d o p start seed x u h one made =
     }
 
 -- each turn goes further, and there is a bound
-pub goes_further : (s : Script) (c d : CoreState) (o p : Ongoing) (u : ℕ) → MayStep s c o u → ((start : Start) (turns : List ℕ) → HasLed s c o start turns → HasLed s d p start (turns ++ u ∷ []))
+pub goes_further : (s : Script) (c d : CoreState) (u : ℕ) → MayHappen s c u → ((start : Start) (turns : List ℕ) → HasLed s c start turns → HasLed s d start (turns ++ u ∷ []))
     → 2000000 - gone d < 2000000 - gone c
-goes_further s c d o p u may made =
+goes_further s c d u may made =
     let h = may.under_way in
     let y = h.start.system in
     let f = h.start.flat in

@@ -1,6 +1,6 @@
 -- What holds wherever events have led from a start. States docs/levels.md, "Locks".
 use Rattle.std.proofs.Common.{◌≡◌, ℕ, ◌+◌, ◌<◌, ◌≤◌, ◌||◌, Bool, true, false, cond, List, [], ◌∷◌, length, Option, Some, sym, ap, ◌∙◌, subst, arith}
-use Rattle.std.specs.Prelude.{slice_get, slice_set, IfSome, option_map}
+use Rattle.std.specs.Prelude.{slice_get, slice_set, slice_index_or, IfSome, option_map}
 use Rattle.std.proofs.lemmas.Bool.{and_parts}
 use Rattle.psos_calls.specs.declared.level.Level.{Level}
 use Rattle.psos_calls.specs.declared.level_call.LevelCall.{LevelCall}
@@ -27,9 +27,11 @@ use Rattle.psos_events.specs.Events.{CanHappen}
 use Rattle.psos_events.proofs.Able.{events_can_happen}
 use Rattle.psos_events.proofs.Kept.{HasDone, has_done, stands_now, event_keeps}
 use Rattle.psos_core.specs.declared.ongoing.Ongoing.{Ongoing}
-use Rattle.psos_core.specs.Events.{next_for, CanPlan, may_go, IsUnderWay, MayStep}
+use Rattle.psos_core.specs.Plans.{next_for, CanPlan, may_go, known_of}
+use Rattle.psos_core.specs.declared.upcoming.Upcoming.TheVariants as upcoming
+use Rattle.psos_core.specs.Events.{IsUnderWay, MayStep}
 use Rattle.psos_core.proofs.Orders.{order_length}
-use Rattle.psos_core.proofs.Stepping.{event, event_is, enabled_is}
+use Rattle.psos_core.proofs.Stepping.{event, event_is, enabled_is, told_is}
 
 -- what a user's plan does next can be told
 pub can_plan : (s : Script) (y : System) (f : Flat) → IsCoreStart s y f → (c : CoreState) → HasDone s y f c → (u : ℕ) (x : User) → slice_get c.users u ≡ Some x → CanPlan s x (trace_of c u)
@@ -41,7 +43,7 @@ can_plan s y f start c h u x here =
       lists = directories_are_lists s (committed s y c) (run_from s f (order_of c.entries)) now.stands now.sound;
     }
 
-module _ (s : Script) (c : CoreState) (o : Ongoing) (h : IsUnderWay s c o) where
+module _ (s : Script) (c : CoreState) (h : IsUnderWay s c) where
   abbrev y : System
   y = h.start.system
 
@@ -67,18 +69,22 @@ module _ (s : Script) (c : CoreState) (o : Ongoing) (u : ℕ) (may : MayStep s c
   abbrev n : ℕ
   n = length s.users
 
+  -- what is kept of its plan is what it does next
+  pub kept_next : known_of (slice_index_or o.nexts.items u upcoming.Nothing) ≡ next_for s c u
+  kept_next = told_is (slice_index_or o.nexts.items u upcoming.Nothing) (next_for s c u) (may.kept.each u) (may.known u)
+
   pub left : has_left s c.users u ≡ true
-  left = (and_parts (has_left s c.users u) (may_go n c.held u (next_for s c u)) (sym (enabled_is s c u) ∙ may.enabled)).0
+  left = (and_parts (has_left s c.users u) (may_go n c.held u (next_for s c u)) (sym (enabled_is s c u) ∙ may.goes.enabled)).0
 
   pub goes : may_go n c.held u (next_for s c u) ≡ true
-  goes = (and_parts (has_left s c.users u) (may_go n c.held u (next_for s c u)) (sym (enabled_is s c u) ∙ may.enabled)).1
+  goes = (and_parts (has_left s c.users u) (may_go n c.held u (next_for s c u)) (sym (enabled_is s c u) ∙ may.goes.enabled)).1
 
   -- what holds then
-  pub done_then : HasDone s may.under_way.start.system may.under_way.start.flat (core_step s c u)
-  done_then = event_keeps s may.under_way.start.system may.under_way.start.flat may.under_way.after.starts c (done s c o may.under_way) u may.enabled
+  pub done_then : HasDone s may.goes.under_way.start.system may.goes.under_way.start.flat (core_step s c u)
+  done_then = event_keeps s may.goes.under_way.start.system may.goes.under_way.start.flat may.goes.under_way.after.starts c (done s c may.goes.under_way) u may.goes.enabled
 
   pub plans_then : (v : ℕ) (x : User) → slice_get (core_step s c u).users v ≡ Some x → CanPlan s x (trace_of (core_step s c u) v)
-  plans_then = can_plan s may.under_way.start.system may.under_way.start.flat may.under_way.after.starts (core_step s c u) done_then
+  plans_then = can_plan s may.goes.under_way.start.system may.goes.under_way.start.flat may.goes.under_way.after.starts (core_step s c u) done_then
 
   event_by : (next : Next) → next_for s c u ≡ Some next → event_of s c u ≡ Some (event s c u next)
   event_by next asked = event_is s c u left ∙ ap (option_map (event s c u)) asked
@@ -113,7 +119,7 @@ module _ (s : Script) (c : CoreState) (o : Ongoing) (u : ℕ) (may : MayStep s c
       step_call = step_by (events.Call call) event_call
 
       can : CanHappen c u (Some (events.Call call))
-      can = subst (CanHappen c u) event_call (can_happen s c o may.under_way u)
+      can = subst (CanHappen c u) event_call (can_happen s c may.goes.under_way u)
 
       pub can_call : Can c.levels call
       can_call = can.0
@@ -132,7 +138,7 @@ module _ (s : Script) (c : CoreState) (o : Ongoing) (u : ℕ) (may : MayStep s c
 
       pub can_settle : CanSettle x effect
       can_settle =
-          let can : CanHappen c u (Some (events.Close reply effect)) = subst (CanHappen c u) event_close (can_happen s c o may.under_way u) in
+          let can : CanHappen c u (Some (events.Close reply effect)) = subst (CanHappen c u) event_close (can_happen s c may.goes.under_way u) in
           subst (λ (o : Option User). IfSome o (λ z. CanSettle z effect)) here can
 
 -- the counts of a user whose part can be settled have room

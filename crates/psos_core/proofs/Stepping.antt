@@ -1,6 +1,6 @@
 -- A user's event, by what its plan does next. States docs/levels.md, "Locks".
-use Rattle.std.proofs.Common.{◌≡◌, ℕ, ◌<◌, ◌&&◌, ◌||◌, Bool, true, false, cond, List, length, get_or, set, Option, Some, None, refl, sym, ap, ◌∙◌}
-use Rattle.std.specs.Prelude.{Result, Ok, Err, OnOk, slice_get, slice_index_or, option_map}
+use Rattle.std.proofs.Common.{◌≡◌, ℕ, ◌<◌, ◌&&◌, ◌||◌, Bool, true, false, cond, List, length, get_or, set, Option, Some, None, refl, sym, ap, ◌∙◌, subst}
+use Rattle.std.specs.Prelude.{IsTrue, Result, Ok, Err, OnOk, OnErr, IfErr, IsErrAnd, slice_get, slice_index_or, option_map}
 use Rattle.std.specs.Option.{option_and_then}
 use Rattle.std.proofs.lemmas.Bool.{true≢false}
 use Rattle.std.proofs.lemmas.List.{length-set}
@@ -27,7 +27,9 @@ use Rattle.psos_model.specs.Core.{CoreState, Event, locks_of, trace_of, plan_lef
 use Rattle.psos_model.specs.Core as events
 use Rattle.psos_events.proofs.Holders.{by_set}
 use Rattle.psos_events.proofs.Kept.{set_at}
-use Rattle.psos_core.specs.Events.{next_after, next_for, IsLeveled, call_in, may_go, IsKept}
+use Rattle.psos_core.specs.declared.upcoming.Upcoming.{Upcoming}
+use Rattle.psos_core.specs.declared.upcoming.Upcoming.TheVariants as upcoming
+use Rattle.psos_core.specs.Plans.{next_after, next_for, IsLeveled, call_in, closes, may_go, Tells, known_of, is_known, AreKnown, IsKept}
 
 -- ---- the event is the one that the plan tells
 
@@ -107,16 +109,53 @@ asked_close users held u (Some (nexts.Close reply effect)) e may = record { repl
 pub in_place : {X : Type 0} (xs : List X) (u : ℕ) (r d : X) → u < length xs → r ≡ get_or xs u r → r ≡ get_or xs u d
 in_place xs u r d below is = is ∙ get_or_from_slice_get xs u (get_or xs u d) r (slice_get-get_or xs u d below)
 
+-- a close is told as one
+pub tells_close : (o : Option Next) → closes o ≡ true → Tells upcoming.Close o
+tells_close o h = record { nothing = λ e. absurd cc; known = λ next e. absurd cc; close = λ e. h }
+
+-- what is known is told
+pub told_is : (up : Upcoming) (o : Option Next) → Tells up o → IsTrue (is_known up) → known_of up ≡ o
+told_is upcoming.Nothing o h known = sym (h.nothing refl)
+told_is (upcoming.Known next) o h known = sym (h.known next refl)
+told_is upcoming.Close o h known = absurd (true≢false (sym known))
+
+-- and what is not is a close
+pub still_closes : (up : Upcoming) (o : Option Next) → Tells up o → is_known up ≡ false → IsTrue (closes o)
+still_closes upcoming.Nothing o h not = absurd (true≢false not)
+still_closes (upcoming.Known next) o h not = absurd (true≢false not)
+still_closes upcoming.Close o h not = h.close refl
+
+-- a call that is known is told with its level
+pub known_leveled : (up : Upcoming) (o : Option Next) → Tells up o → IsLeveled o → IsLeveled (known_of up)
+known_leveled upcoming.Nothing o h level = tt
+known_leveled (upcoming.Known next) o h level = subst IsLeveled (h.known next refl) level
+known_leveled upcoming.Close o h level = tt
+
+-- a close goes on
+pub close_goes : (users : ℕ) (held : List (List LockId)) (u : ℕ) (o : Option Next) → closes o ≡ true → true ≡ may_go users held u o
+close_goes users held u None h = absurd (true≢false (sym h))
+close_goes users held u (Some (nexts.Call level call)) h = absurd (true≢false (sym h))
+close_goes users held u (Some (nexts.Close reply effect)) h = refl
+
 -- user u's plan has gone on, and the others' are as they were
-pub kept_on : (s : Script) (c d : CoreState) (nexts : List (Option Next)) (phase : Option ℕ) (u : ℕ) (then : Option Next)
-    → length nexts ≡ length c.users → ((v : ℕ) → (v ≡ u → ⊥) → slice_index_or nexts v None ≡ next_for s c v)
-    → length d.users ≡ length c.users → u < length nexts → ((v : ℕ) → (v ≡ u → ⊥) → next_for s d v ≡ next_for s c v)
-    → then ≡ next_for s d u → phase ≡ current_phase s d.users → IsKept s d (set nexts u then) phase
-kept_on s c d nexts phase u then all others users below apart mine now = record {
-  all = length-set nexts u then ∙ (all ∙ sym users);
-  each = by_set (λ v o. o ≡ next_for s d v) (set_at nexts u then None below) mine (λ v other. others v other ∙ sym (apart v other));
+pub kept_on : (s : Script) (c d : CoreState) (nexts : List Upcoming) (phase : Option ℕ) (u : ℕ) (then : Upcoming)
+    → length nexts ≡ length s.users → ((v : ℕ) → (v ≡ u → ⊥) → Tells (slice_index_or nexts v upcoming.Nothing) (next_for s c v))
+    → length d.users ≡ length s.users → length d.held ≡ length s.users → length d.traces ≡ length s.users → u < length nexts
+    → ((v : ℕ) → (v ≡ u → ⊥) → next_for s d v ≡ next_for s c v) → Tells then (next_for s d u) → phase ≡ current_phase s d.users → IsKept s d (set nexts u then) phase
+kept_on s c d nexts phase u then all others users held traces below apart mine now = record {
+  users = users;
+  held = held;
+  traces = traces;
+  all = length-set nexts u then ∙ all;
+  each = by_set (λ v up. Tells up (next_for s d v)) (set_at nexts u then upcoming.Nothing below) mine
+      (λ v other. subst (Tells (slice_index_or nexts v upcoming.Nothing)) (sym (apart v other)) (others v other));
   now = now;
 }
+
+-- and it is known
+pub known_on : (nexts : List Upcoming) (u : ℕ) (then : Upcoming) → u < length nexts → ((v : ℕ) → (v ≡ u → ⊥) → IsTrue (is_known (slice_index_or nexts v upcoming.Nothing)))
+    → IsTrue (is_known then) → AreKnown (set nexts u then)
+known_on nexts u then below others mine = by_set (λ v up. IsTrue (is_known up)) (set_at nexts u then upcoming.Nothing below) mine others
 
 -- another user's plan does the same where its own part and its trace are the same
 pub next_same : (s : Script) (c d : CoreState) (v : ℕ) → slice_get d.users v ≡ slice_get c.users v → trace_of d v ≡ trace_of c v → next_for s d v ≡ next_for s c v
@@ -133,7 +172,22 @@ left_is s c u x phase b here now is =
     ap (λ (o : Option User). if_there o false (λ (z : User). is_left s c.users z)) here
     ∙ (ap (λ (o : Option ℕ). is_open x.frames || is_now (phase_of s x) o) (sym now) ∙ sym is)
 
--- ---- what follows where a call went well
+-- ---- what follows where a call went well, and where not
+
+-- what is ensured of an error holds of it
+pub from_err : {T E : Type 0} (r : Result T E) (e : E) (P : E → Type 0) → r ≡ Err e → IfErr r P → P e
+from_err (Ok x) e P is h = absurd cc
+from_err {T} {E} (Err d) e P is h = (let same : d ≡ e = cc in subst P same h)
+
+-- of an error that was passed on too
+pub err_on : {T E : Type 0} (r : Result T E) (e : E) (P : E → Type 0) → IsErrAnd r (λ d. d ≡ e) → P e → IfErr r P
+err_on (Ok x) e P is h = tt
+err_on (Err d) e P is h = subst P (sym is) h
+
+-- what holds anyway is ensured of an error
+pub on_err : {T E : Type 0} (r : Result T E) {P : Type 0} → P → OnErr r P
+on_err (Ok x) h = tt
+on_err (Err e) h = h
 
 pub if_ok : {T E : Type 0} (r : Result T E) {P Q : Type 0} → (P → Q) → OnOk r P → OnOk r Q
 if_ok (Ok x) go h = go h

@@ -61,12 +61,16 @@ pub record IsServed (s : Script) (old : System) (u : ℕ) (new : System) (entry 
 
 -- ---- all requests
 
--- a whole run from such a start: nobody has a request left, the requests come in such an order, the entries are those of its replay and say what the run answers, the levels stand for the flat state of the run, and the laws hold at every point of it
-pub record IsRunFrom (s : Script) (y : System) (f : Flat) (InOrder : List ℕ → Type 0) (entries : List Entry) (left : System) : Type 0 where
+-- from such a start, the requests so far come in a legal order, and the entries are those of its replay and say what its run answers
+pub record IsFrontFrom (s : Script) (y : System) (f : Flat) (entries : List Entry) : Type 0 where
   pub legal : IsLegalFrom s f (order_of entries)
-  pub over : (u : ℕ) → has_left s (run_from s f (order_of entries)).users u ≡ false
   pub recorded : entries ≡ entries_from s y (order_of entries)
   pub answered : map answered_of entries ≡ answers_from s f (order_of entries)
+
+-- a whole run: nobody has a request left, the requests come in such an order, the levels are those of the replay and stand for the flat state of the run, and the laws hold at every point of it
+pub record IsRunFrom (s : Script) (y : System) (f : Flat) (InOrder : List ℕ → Type 0) (entries : List Entry) (left : System) : Type 0 where
+  pub front : IsFrontFrom s y f entries
+  pub over : (u : ℕ) → has_left s (run_from s f (order_of entries)).users u ≡ false
   pub ordered : InOrder (order_of entries)
   pub few : calls_of entries < 2 ^ 64
   pub replayed : left ≡ replay_from s y (order_of entries)

@@ -1,9 +1,9 @@
 // The levels together, and the users' own parts.
-ghost use Rattle.std.specs.Prelude.{◌≡◌, ◌≤◌, ◌-◌, ◌<◌, ◌^◌, IfOk, OnErr};
+ghost use Rattle.std.specs.Prelude.{◌≡◌, ◌≤◌, ◌-◌, ◌<◌, ◌^◌, IfOk, IfErr, OnErr};
 ghost use Rattle.psos_io.specs.Causes.{HasCause};
 ghost use Rattle.psos_calls.specs.Levels.{level_of, act as act_of, act0, Can};
 ghost use Rattle.psos_core.specs.System.{levels_of};
-ghost use Rattle.psos_core.specs.Faults.{IsLicensed};
+ghost use Rattle.psos_core.specs.Faults.{IsLicensed, CanFault};
 
 use arrayvec::ArrayVec;
 use psos_calls::{Level, LevelAnswer, LevelCall, LevelFault, Private};
@@ -53,8 +53,8 @@ pub fn act_issuer(issuer: &mut Issuer, call: &LevelCall) -> LevelAnswer
 
 impl<B: Store> Levels<B> {
     /// Makes a call of its level, where its condition holds (docs/levels.md, "Calls"). A refusal is an answer, and
-    /// changes nothing. A fault leaves all levels as they were: want of memory, or `Store` only where the store's
-    /// count of faults rose in the call.
+    /// changes nothing. A fault leaves all levels as they were: want of memory, only of a call that adds a row, or
+    /// `Store`, only of a call of level 7 in which the store's count of faults rose.
     pub fn act(
         &mut self,
         alloc: Global,
@@ -67,6 +67,7 @@ impl<B: Store> Levels<B> {
         ensures kept { OnErr result (levels_of self.new ≡ levels_of self.old) }
         ensures privates { self.new.privates ≡ self.old.privates }
         ensures cause { IsLicensed (B.faults self.old.pages.store) (B.faults self.new.pages.store) result }
+        ensures fault { IfErr result (CanFault call.now) }
     {
         match level {
             Level::L13 => self.codes.act(alloc, call),

@@ -15,6 +15,7 @@ mod serial;
 mod serve;
 mod step;
 mod turns;
+mod upcoming;
 
 pub use event::Event;
 pub use laws::runs_stand;

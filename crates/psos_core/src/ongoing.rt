@@ -1,12 +1,14 @@
 // What users have under way.
-ghost use Rattle.std.specs.Prelude.{◌≡◌, ◌≤◌, ◌<◌, [], length, map, replicate, slice_index_or, None, IfOk};
+ghost use Rattle.std.specs.Prelude.{◌≡◌, ◌≤◌, ◌<◌, [], length, replicate, slice_index_or, IfOk, Option};
+ghost use Rattle.psos_calls.specs.declared.next.Next.{Next};
 ghost use Rattle.psos_calls.specs.Script.{IsWellFormed};
 ghost use Rattle.psos_calls.specs.Levels.{Levels};
 ghost use Rattle.psos_calls.specs.Lists.{HasLists};
 ghost use Rattle.psos_model.specs.Run.{current_phase};
-ghost use Rattle.psos_core.specs.Events.{next_after, call_in, IsLeveled, may_go};
+ghost use Rattle.psos_core.specs.Plans.{call_in, known_of, may_go, AreFirst, IsLeveled, Tells};
 
 use crate::planning::planned;
+use crate::upcoming::Upcoming;
 use psos_calls::{Level, LevelCall, Next, Private, Script, Trace, lock_of};
 use psos_model::current_phase;
 use psos_sysproc::{Table, Want};
@@ -17,8 +19,8 @@ use std::alloc::{AllocError, Global};
 pub(crate) struct Ongoing {
     pub held: Table,
     pub traces: Vec<Trace>,
-    // What the plan of each user's next request does next, where it has one.
-    pub nexts: Vec<Option<Next>>,
+    // What the plan of each user's next request does next.
+    pub nexts: Vec<Upcoming>,
     // The current phase.
     pub phase: Option<usize>,
 }
@@ -31,31 +33,53 @@ impl Ongoing {
         requires lists { (l : Levels) × HasLists l }
         ensures held { IfOk result (λ o. o.held ≡ replicate (length users.now) []) }
         ensures traces { IfOk result (λ o. o.traces.items ≡ replicate (length users.now) []) }
-        ensures nexts { IfOk result (λ o. o.nexts.items ≡ map (λ x. next_after script.now x []) users.now) }
+        ensures nexts { IfOk result (λ o. AreFirst script.now users.now o.nexts.items) }
         ensures phase { IfOk result (λ o. o.phase ≡ current_phase script.now users.now) }
     {
         let mut traces = Vec::with_capacity(alloc, users.len())?;
         let mut nexts = Vec::with_capacity(alloc, users.len())?;
-        'users: for me in users {
-            let trace = Trace::new(alloc)?;
-            nexts.push(planned(alloc, script, me, &trace)?)?;
-            traces.push(trace)?;
+        'users: for _me in users {
+            traces.push(Trace::new(alloc)?)?;
+            nexts.push(Upcoming::Nothing)?;
         }
-        Ok(Ongoing {
+        let mut ongoing = Ongoing {
             held: Table::new(alloc, users.len() as u8)?,
             traces,
             nexts,
-            phase: current_phase(script, users),
-        })
+            phase: None,
+        };
+        ongoing.begin(alloc, script, users);
+        Ok(ongoing)
+    }
+
+    /// Nobody holds a lock any more, and no request is open, whatever was under way. It takes no memory.
+    pub fn begin(&mut self, alloc: Global, script: &Script, users: &[Private])
+        requires script { IsWellFormed script.now }
+        requires few { length users.now ≤ 8 }
+        requires lists { (l : Levels) × HasLists l }
+        requires held { length self.old.held ≡ length users.now }
+        requires traces { length self.old.traces.items ≡ length users.now }
+        requires all { length self.old.nexts.items ≡ length users.now }
+        ensures held { self.new.held ≡ replicate (length users.now) [] }
+        ensures traces { self.new.traces.items ≡ replicate (length users.now) [] }
+        ensures nexts { AreFirst script.now users.now self.new.nexts.items }
+        ensures phase { self.new.phase ≡ current_phase script.now users.now }
+    {
+        'users: for u in 0..users.len() {
+            self.held.release(u as u8);
+            self.traces[u].clear();
+            self.nexts[u] = planned(alloc, script, &users[u], &self.traces[u]);
+        }
+        self.phase = current_phase(script, users);
     }
 
     /// The call that the plan of a user's request asks for.
     pub fn call_of(&self, user: u8) -> Option<(Level, LevelCall)>
         requires { user < length self.now.nexts.items }
-        ensures { result ≡ call_in (slice_index_or self.now.nexts.items user None) }
+        ensures { result ≡ call_in (known_of (slice_index_or self.now.nexts.items user Upcoming.Nothing)) }
     {
         match &self.nexts[user as usize] {
-            Some(Next::Call(level, call)) => Some((*level, *call)),
+            Upcoming::Known(Next::Call(level, call)) => Some((*level, *call)),
             _ => None,
         }
     }
@@ -66,17 +90,17 @@ impl Ongoing {
         requires users { users ≡ length self.now.held }
         requires user { user < length self.now.held }
         requires all { length self.now.nexts.items ≡ length self.now.held }
-        requires level { IsLeveled (slice_index_or self.now.nexts.items user None) }
-        ensures { result ≡ may_go users self.now.held user (slice_index_or self.now.nexts.items user None) }
+        requires level { IsLeveled (known_of (slice_index_or self.now.nexts.items user Upcoming.Nothing)) }
+        ensures { (next : Option Next) → Tells (slice_index_or self.now.nexts.items user Upcoming.Nothing) next → result ≡ may_go users self.now.held user next }
     {
         match &self.nexts[user as usize] {
-            Some(Next::Call(level, call)) => {
+            Upcoming::Known(Next::Call(level, call)) => {
                 let lock = lock_of(users, *level, call);
                 self.held.enabled(user, Want::Call(lock))
                     || self.held.enabled(user, Want::Take(lock))
             }
-            Some(Next::Close(_reply, _effect)) => true,
-            None => false,
+            Upcoming::Known(Next::Close(_, _)) | Upcoming::Close => true,
+            Upcoming::Nothing => false,
         }
     }
 }

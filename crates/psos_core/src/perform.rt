@@ -1,5 +1,6 @@
 // The plan of a request, run call by call.
-ghost use Rattle.std.specs.Prelude.{◌≡◌, ◌≤◌, ◌<◌, [], ◌∷◌, ◌++◌, length, slice_get, Some, IfOk, OnOk};
+ghost use Rattle.std.specs.Prelude.{◌≡◌, ◌≤◌, ◌<◌, [], ◌∷◌, ◌++◌, length, slice_get, Some, IfOk, OnOk, IfErr, OnErr};
+ghost use Rattle.psos_calls.specs.declared.level_call.LevelCall.{LevelCall};
 ghost use Rattle.psos_calls.specs.Request.{InRange};
 ghost use Rattle.psos_calls.specs.User.{User};
 ghost use Rattle.psos_calls.specs.Levels.{level_of, act, Can};
@@ -8,7 +9,7 @@ ghost use Rattle.psos_calls.specs.Lists.{HasLists};
 ghost use Rattle.psos_calls.specs.PlanOf.{plan_of};
 ghost use Rattle.psos_calls.specs.Trace.{calls_in};
 ghost use Rattle.psos_core.specs.System.{levels_of};
-ghost use Rattle.psos_core.specs.Faults.{MayStop};
+ghost use Rattle.psos_core.specs.Faults.{MayStop, CanFault, CanStop};
 ghost use Rattle.psos_core.specs.Serving.{CanRun, IsPlanRun};
 
 use crate::Levels;
@@ -28,6 +29,7 @@ pub(crate) struct Closing {
 // Why a run stops where a level's call could not be made.
 fn stop_cause(fault: &LevelFault) -> StopCause
     ensures store { result ≡ StopCause.Store → fault.now ≡ LevelFault.Store }
+    ensures why { (call : LevelCall) → CanFault call fault.now → CanStop call result }
 {
     match *fault {
         LevelFault::Store => StopCause::Store,
@@ -36,7 +38,8 @@ fn stop_cause(fault: &LevelFault) -> StopCause
 }
 
 /// Makes a call, and keeps it in the trace with its answer, which is not moved, since it has room for a page. It stops
-/// for want of memory, or for a fault of the store, which its count shows.
+/// for want of memory, where the call adds a row, or for a fault of the store, which its count shows, at level 7. Then
+/// the levels and the trace are as they were.
 pub(crate) fn make<B: Store>(
     alloc: Global,
     levels: &mut Levels<B>,
@@ -54,6 +57,9 @@ pub(crate) fn make<B: Store>(
       answer = (act (levels_of levels.old) call.now).1;
     } ∷ []) }
     ensures privates { levels.new.privates ≡ levels.old.privates }
+    ensures kept { OnErr result (levels_of levels.new ≡ levels_of levels.old) }
+    ensures unchanged { OnErr result (trace.new ≡ trace.old) }
+    ensures why { IfErr result (CanStop call.now) }
     ensures cause { MayStop (B.faults levels.old.pages.store) (B.faults levels.new.pages.store) result }
 {
     match &levels.act(alloc, level, call) {

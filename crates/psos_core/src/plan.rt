@@ -1,17 +1,18 @@
 // What the plan of a request does next, whatever its kind.
-ghost use Rattle.std.specs.Prelude.{◌≡◌, IfOk};
+ghost use Rattle.std.specs.Prelude.{◌≡◌, IfOk, OnErr};
 ghost use Rattle.psos_calls.specs.Request.{InRange};
 ghost use Rattle.psos_calls.specs.Levels.{Levels};
 ghost use Rattle.psos_calls.specs.Lists.{HasLists};
 ghost use Rattle.psos_calls.specs.PlanOf.{plan_of};
 ghost use Rattle.psos_calls.specs.Trace.{followed, next_of, IsTraceOf};
+ghost use Rattle.psos_plan_dir.specs.Listing.{IsListing};
 
 use psos_calls::{Next, Private, Request, Trace};
 use std::alloc::{AllocError, Global};
 
 /// What the plan of a request does after its calls so far (docs/requests.md, "Plans"): the next call, or the close. The
 /// trace is a front of a run of the plan, from levels in which each live directory has an entry list. A refusal is for
-/// memory, which only `list` takes, for its names.
+/// memory, and comes only where `list` closes with its names.
 pub(crate) fn next(
     alloc: Global,
     request: &Request,
@@ -20,7 +21,8 @@ pub(crate) fn next(
 ) -> Result<Next, AllocError>
     requires in_range { InRange 64 request.now }
     requires trace { (l : Levels) × IsTraceOf (plan_of me.now request.now) l trace.now × HasLists l }
-    ensures { IfOk result (λ n. n ≡ next_of (followed (plan_of me.now request.now) trace.now)) }
+    ensures answer { IfOk result (λ n. n ≡ next_of (followed (plan_of me.now request.now) trace.now)) }
+    ensures memory { OnErr result (IsListing request.now (followed (plan_of me.now request.now) trace.now)) }
 {
     match *request {
         Request::Mint { .. }

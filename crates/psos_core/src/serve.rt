@@ -1,5 +1,5 @@
 // One request of one user.
-ghost use Rattle.std.specs.Prelude.{◌≡◌, IfOk};
+ghost use Rattle.std.specs.Prelude.{◌≡◌, length, IfOk};
 ghost use Rattle.psos_core.specs.System.{system_of};
 ghost use Rattle.psos_core.specs.Faults.{MayStop};
 ghost use Rattle.psos_core.specs.Serving.{Asks, IsServed};
@@ -23,6 +23,7 @@ pub(crate) fn serve<B: Store>(
 ) -> Result<Entry, StopCause>
     requires { Asks script.now (system_of levels.old) u request.now }
     ensures served { IfOk result (IsServed script.now (system_of levels.old) u (system_of levels.new)) }
+    ensures users { length levels.new.privates.items ≡ length levels.old.privates.items }
     ensures cause { MayStop (B.faults levels.old.pages.store) (B.faults levels.new.pages.store) result }
 {
     trace.clear();

@@ -1,14 +1,16 @@
 // An event of a user, made.
-ghost use Rattle.std.specs.Prelude.{◌≡◌, length, Some, IfOk, OnOk, OnErr, option_map};
+ghost use Rattle.std.specs.Prelude.{◌≡◌, length, Some, IfOk, OnOk, IfErr, OnErr, option_map};
 ghost use Rattle.psos_calls.specs.declared.reply.Reply.{Reply};
 ghost use Rattle.psos_calls.specs.declared.effect.Effect.{Effect};
-ghost use Rattle.psos_model.specs.Core.{event_of};
-ghost use Rattle.psos_core.specs.Faults.{MayStop};
-ghost use Rattle.psos_core.specs.Events.{state_in, next_for, MayStep, HasStepped, told};
+ghost use Rattle.psos_model.specs.Core.{event_of, core_step};
+ghost use Rattle.psos_core.specs.Faults.{MayStop, CanStopAt};
+ghost use Rattle.psos_core.specs.Plans.{state_in, next_for};
+ghost use Rattle.psos_core.specs.Events.{MayStep, HasStepped, HasStopped, told};
 
 use crate::ongoing::Ongoing;
 use crate::perform::make;
 use crate::planning::planned;
+use crate::upcoming::Upcoming;
 use crate::{Event, Levels};
 use psos_calls::{Entry, Level, LevelCall, Next, Script, lock_of};
 use psos_io::Store;
@@ -18,8 +20,9 @@ use psos_sysproc::Want;
 use std::alloc::Global;
 use std::mem;
 
-/// Makes the event of a user, which is enabled: it takes a lock, calls a level, or closes its request. It stops for
-/// want of memory, or for a fault of the store, which its count shows; no entry is added then.
+/// Makes the event of a user, which is enabled: it takes a lock, calls a level, or closes its request. It may stop for
+/// want of memory, but not at a take, and for a fault of the store, which its count shows, in a call of level 7. Then no
+/// entry is added, and all is as it was before the event, or as it is after it.
 pub(crate) fn step<B: Store>(
     alloc: Global,
     script: &Script,
@@ -31,6 +34,8 @@ pub(crate) fn step<B: Store>(
     requires may { MayStep script.now (state_in levels.old ongoing.old entries.old) ongoing.old user }
     ensures happened { OnOk result (HasStepped script.now (state_in levels.old ongoing.old entries.old) user (state_in levels.new ongoing.new entries.new) ongoing.new) }
     ensures told { IfOk result (λ e. Some e ≡ option_map (told (length entries.old)) (event_of script.now (state_in levels.old ongoing.old entries.old) user)) }
+    ensures left { OnErr result (HasStopped script.now (state_in levels.old ongoing.old entries.old) user (state_in levels.new ongoing.new entries.new) ongoing.new) }
+    ensures why { IfErr result (CanStopAt (event_of script.now (state_in levels.old ongoing.old entries.old) user) (next_for script.now (core_step script.now (state_in levels.old ongoing.old entries.old) user) user)) }
     ensures stopped { OnErr result (entries.new ≡ entries.old) }
     ensures cause { MayStop (B.faults levels.old.pages.store) (B.faults levels.new.pages.store) result }
 {
@@ -57,6 +62,8 @@ fn take_or_call<B: Store>(
     requires asked { next_for script.now (state_in levels.old ongoing.old entries.now) user ≡ Some (Next.Call level call.now) }
     ensures happened { OnOk result (HasStepped script.now (state_in levels.old ongoing.old entries.now) user (state_in levels.new ongoing.new entries.now) ongoing.new) }
     ensures told { IfOk result (λ e. Some e ≡ option_map (told (length entries.now)) (event_of script.now (state_in levels.old ongoing.old entries.now) user)) }
+    ensures left { OnErr result (HasStopped script.now (state_in levels.old ongoing.old entries.now) user (state_in levels.new ongoing.new entries.now) ongoing.new) }
+    ensures why { IfErr result (CanStopAt (event_of script.now (state_in levels.old ongoing.old entries.now) user) (next_for script.now (core_step script.now (state_in levels.old ongoing.old entries.now) user) user)) }
     ensures cause { MayStop (B.faults levels.old.pages.store) (B.faults levels.new.pages.store) result }
 {
     let lock = lock_of(script.users().len() as u8, level, call);
@@ -66,19 +73,22 @@ fn take_or_call<B: Store>(
     }
     let u = user as usize;
     make(alloc, levels, &mut ongoing.traces[u], level, call)?;
-    let Ok(then) = planned(
+    let then = planned(
         alloc,
         script,
         &levels.privates.as_slice()[u],
         &ongoing.traces[u],
-    ) else {
-        return Err(StopCause::Memory);
-    };
+    );
+    let known = then.is_known();
     ongoing.nexts[u] = then;
+    if !known {
+        return Err(StopCause::Memory);
+    }
     Ok(Event::Call(level))
 }
 
-// Closes the user's request: its entry comes last, its effect is settled, and its locks are free.
+// Closes the user's request: its entry comes last, its effect is settled, and its locks are free. What takes memory
+// comes first, so where that is wanting nothing has changed.
 fn close<B: Store>(
     alloc: Global,
     script: &Script,
@@ -91,30 +101,22 @@ fn close<B: Store>(
     requires asked { (reply : Reply) × (effect : Effect) × (next_for script.now (state_in levels.old ongoing.old entries.old) user ≡ Some (Next.Close reply effect)) }
     ensures happened { OnOk result (HasStepped script.now (state_in levels.old ongoing.old entries.old) user (state_in levels.new ongoing.new entries.new) ongoing.new) }
     ensures told { IfOk result (λ e. Some e ≡ option_map (told (length entries.old)) (event_of script.now (state_in levels.old ongoing.old entries.old) user)) }
+    ensures left { OnErr result (HasStopped script.now (state_in levels.old ongoing.old entries.old) user (state_in levels.new ongoing.new entries.new) ongoing.new) }
+    ensures why { IfErr result (CanStopAt (event_of script.now (state_in levels.old ongoing.old entries.old) user) (next_for script.now (core_step script.now (state_in levels.old ongoing.old entries.old) user) user)) }
     ensures stopped { OnErr result (entries.new ≡ entries.old) }
     ensures cause { MayStop (B.faults levels.old.pages.store) (B.faults levels.new.pages.store) result }
 {
     let u = user as usize;
-    let Some(Next::Close(reply, effect)) = mem::replace(&mut ongoing.nexts[u], None) else {
-        unreachable!()
-    };
-    let (n, m) = levels.privates.as_slice()[u].place();
     let Ok(steps) = ongoing.traces[u].calls(alloc) else {
         return Err(StopCause::Memory);
     };
-    levels.privates.as_mut_slice()[u].settle(&effect, script);
-    ongoing.traces[u].clear();
-    let Ok(then) = planned(
-        alloc,
-        script,
-        &levels.privates.as_slice()[u],
-        &ongoing.traces[u],
+    let Upcoming::Known(Next::Close(reply, effect)) = mem::replace(
+        &mut ongoing.nexts[u],
+        Upcoming::Close,
     ) else {
-        return Err(StopCause::Memory);
+        unreachable!()
     };
-    ongoing.nexts[u] = then;
-    ongoing.phase = current_phase(script, levels.privates.as_slice());
-    ongoing.held.release(user);
+    let (n, m) = levels.privates.as_slice()[u].place();
     let stamp = entries.len();
     let entry = Entry {
         user,
@@ -126,5 +128,15 @@ fn close<B: Store>(
     if entries.push(entry).is_err() {
         return Err(StopCause::Memory);
     }
+    levels.privates.as_mut_slice()[u].settle(&effect, script);
+    ongoing.traces[u].clear();
+    ongoing.nexts[u] = planned(
+        alloc,
+        script,
+        &levels.privates.as_slice()[u],
+        &ongoing.traces[u],
+    );
+    ongoing.phase = current_phase(script, levels.privates.as_slice());
+    ongoing.held.release(user);
     Ok(Event::Close(stamp))
 }

@@ -33,21 +33,21 @@ next-requires-clause-trace g c =
 pub make-requires-clause-level : goal.make-requires-clause-level
 make-requires-clause-level g c =
     let found : c.index-as_slice-u.result ≡ g.me = found_is c.args.levels.now.privates.items c.walk.levels.privates.items c.as_slice.result.now c.args.u c.index-as_slice-u.result g.me c.requires.1.0 (ap (λ p. p.items) c.walk.invariant.1) c.as_slice.ensures.value c.index-as_slice-u.is in
-    let told : c.in-Ok.then ≡ next_of (followed (plan_of c.index-as_slice-u.result c.args.request.now) c.walk.trace) = c.in-Ok.ensures in
+    let told : c.in-Ok.then ≡ next_of (followed (plan_of c.index-as_slice-u.result c.args.request.now) c.walk.trace) = c.in-Ok.ensures.answer in
     let asked = asked_is c.index-as_slice-u.result g.me c.args.request.now c.walk.trace c.in-Ok.then (nexts.Call c.in-Call.level c.in-Call.call) found told c.in-Call.is in
     level_is (followed (plan_of g.me c.args.request.now) c.walk.trace) c.in-Call.level c.in-Call.call asked
 
 pub make-requires-clause-can : goal.make-requires-clause-can
 make-requires-clause-can g c =
     let found : c.index-as_slice-u.result ≡ g.me = found_is c.args.levels.now.privates.items c.walk.levels.privates.items c.as_slice.result.now c.args.u c.index-as_slice-u.result g.me c.requires.1.0 (ap (λ p. p.items) c.walk.invariant.1) c.as_slice.ensures.value c.index-as_slice-u.is in
-    let told : c.in-Ok.then ≡ next_of (followed (plan_of c.index-as_slice-u.result c.args.request.now) c.walk.trace) = c.in-Ok.ensures in
+    let told : c.in-Ok.then ≡ next_of (followed (plan_of c.index-as_slice-u.result c.args.request.now) c.walk.trace) = c.in-Ok.ensures.answer in
     let asked = asked_is c.index-as_slice-u.result g.me c.args.request.now c.walk.trace c.in-Ok.then (nexts.Call c.in-Call.level c.in-Call.call) found told c.in-Call.is in
     can_ask (followed (plan_of g.me c.args.request.now) c.walk.trace) (levels_of c.walk.levels) c.in-Call.level c.in-Call.call c.walk.invariant.0.can asked
 
 pub walk-smaller : goal.walk-smaller
 walk-smaller g c =
     let found : c.index-as_slice-u.result ≡ g.me = found_is c.args.levels.now.privates.items c.walk.levels.privates.items c.as_slice.result.now c.args.u c.index-as_slice-u.result g.me c.requires.1.0 (ap (λ p. p.items) c.walk.invariant.1) c.as_slice.ensures.value c.index-as_slice-u.is in
-    let told : c.in-Ok.then ≡ next_of (followed (plan_of c.index-as_slice-u.result c.args.request.now) c.walk.trace) = c.in-Ok.ensures in
+    let told : c.in-Ok.then ≡ next_of (followed (plan_of c.index-as_slice-u.result c.args.request.now) c.walk.trace) = c.in-Ok.ensures.answer in
     let asked = asked_is c.index-as_slice-u.result g.me c.args.request.now c.walk.trace c.in-Ok.then (nexts.Call c.in-Call.level c.in-Call.call) found told c.in-Call.is in
     let start = levels_of c.args.levels.now in
     let here = levels_of c.walk.levels in
@@ -58,7 +58,7 @@ walk-smaller g c =
 pub walk-preserved : goal.walk-preserved
 walk-preserved g c =
     let found : c.index-as_slice-u.result ≡ g.me = found_is c.args.levels.now.privates.items c.walk.levels.privates.items c.as_slice.result.now c.args.u c.index-as_slice-u.result g.me c.requires.1.0 (ap (λ p. p.items) c.walk.invariant.1) c.as_slice.ensures.value c.index-as_slice-u.is in
-    let told : c.in-Ok.then ≡ next_of (followed (plan_of c.index-as_slice-u.result c.args.request.now) c.walk.trace) = c.in-Ok.ensures in
+    let told : c.in-Ok.then ≡ next_of (followed (plan_of c.index-as_slice-u.result c.args.request.now) c.walk.trace) = c.in-Ok.ensures.answer in
     let asked = asked_is c.index-as_slice-u.result g.me c.args.request.now c.walk.trace c.in-Ok.then (nexts.Call c.in-Call.level c.in-Call.call) found told c.in-Call.is in
     let start = levels_of c.args.levels.now in
     let here = levels_of c.walk.levels in
@@ -70,6 +70,6 @@ walk-preserved g c =
 pub returns-in-Close-clause-ran : goal.returns-in-Close-clause-ran
 returns-in-Close-clause-ran g c =
     let found : c.index-as_slice-u.result ≡ g.me = found_is c.args.levels.now.privates.items c.walk.levels.privates.items c.as_slice.result.now c.args.u c.index-as_slice-u.result g.me c.requires.1.0 (ap (λ p. p.items) c.walk.invariant.1) c.as_slice.ensures.value c.index-as_slice-u.is in
-    let told : c.in-Ok.then ≡ next_of (followed (plan_of c.index-as_slice-u.result c.args.request.now) c.walk.trace) = c.in-Ok.ensures in
+    let told : c.in-Ok.then ≡ next_of (followed (plan_of c.index-as_slice-u.result c.args.request.now) c.walk.trace) = c.in-Ok.ensures.answer in
     let closed = asked_is c.index-as_slice-u.result g.me c.args.request.now c.walk.trace c.in-Ok.then (nexts.Close c.in-Close.reply c.in-Close.effect) found told c.in-Close.is in
     whole_at_close (plan_of g.me c.args.request.now) (levels_of c.args.levels.now) (levels_of c.walk.levels) c.walk.trace c.in-Close.reply c.in-Close.effect c.walk.invariant.0 closed

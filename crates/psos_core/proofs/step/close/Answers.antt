@@ -1,22 +1,22 @@
-use Rattle.std.proofs.Common.{◌≡◌, ℕ, ◌<◌, ◌++◌, ◌∷◌, [], List, length, get_or, set, Option, Some, refl, sym, ap, ◌∙◌, subst, arith}
+use Rattle.std.proofs.Common.{◌≡◌, ℕ, ◌<◌, ◌++◌, ◌∷◌, [], List, length, get_or, set, Some, refl, sym, ap, ◌∙◌, subst, arith}
 use Rattle.std.specs.Prelude.{slice_get}
 use Rattle.std.specs.List.{refill}
 use Rattle.std.specs.Vec.{with_item}
 use Rattle.std.proofs.lemmas.Grind.{common_steps}
 use Rattle.std.proofs.lemmas.Option.{same_Some}
 use Rattle.psos_calls.specs.declared.step.Step.{Step}
-use Rattle.psos_calls.specs.declared.next.Next.{Next}
 use Rattle.psos_calls.specs.User.{User, CanSettle, place_of, after}
 use Rattle.psos_calls.specs.Trace.{calls_in}
 use Rattle.psos_model.specs.Run.{current_phase}
 use Rattle.psos_model.specs.Core.{trace_of}
 use Rattle.psos_core.specs.declared.levels.Levels.{Levels}
 use Rattle.psos_core.specs.declared.ongoing.Ongoing.{Ongoing}
-use Rattle.psos_core.specs.Events.{state_in, next_after, CanPlan}
+use Rattle.psos_core.specs.declared.upcoming.Upcoming.{Upcoming}
+use Rattle.psos_core.specs.Plans.{state_in, next_after, CanPlan, Tells}
 use Rattle.psos_core.proofs.Found.{found_there}
 use Rattle.psos_core.proofs.Stepping.{in_place}
 use Rattle.psos_core.proofs.Reached.{done, few, can_settle, answered_fits, within_fits}
-use Rattle.psos_core.proofs.Moved.{below, read_back, parts_are, closed_is, closing, shut_plan, shut}
+use Rattle.psos_core.proofs.Moved.{below, read_back, parts_are, closed_is, closing, waits, shut_plan, shut}
 use Rattle.psos_core.proofs.step.close.Goals as goal
 
 pub place-n-requires-clause-answered : goal.place-n-requires-clause-answered
@@ -26,7 +26,7 @@ place-n-requires-clause-answered g c =
     let now = state_in c.args.levels.now o c.args.entries.now in
     let u = c.args.user in
     let may = c.requires.may in
-    let w = c.in-Some-Close in
+    let w = c.in-Known-Close in
     let asked = closing s now o u may c.index_mut.result.now c.replace.result w.field-0 w.reply w.effect c.index_mut.ensures.value c.replace.ensures.value w.is w.field-0-is in
     let x = c.index-as_slice-u.result in
     let here : slice_get now.users u ≡ Some x = found_there c.as_slice.result.now now.users u x c.as_slice.ensures.value c.index-as_slice-u.is (below s now o u may) in
@@ -39,7 +39,7 @@ place-n-requires-clause-within g c =
     let now = state_in c.args.levels.now o c.args.entries.now in
     let u = c.args.user in
     let may = c.requires.may in
-    let w = c.in-Some-Close in
+    let w = c.in-Known-Close in
     let asked = closing s now o u may c.index_mut.result.now c.replace.result w.field-0 w.reply w.effect c.index_mut.ensures.value c.replace.ensures.value w.is w.field-0-is in
     let x = c.index-as_slice-u.result in
     let here : slice_get now.users u ≡ Some x = found_there c.as_slice.result.now now.users u x c.as_slice.ensures.value c.index-as_slice-u.is (below s now o u may) in
@@ -48,27 +48,27 @@ place-n-requires-clause-within g c =
 pub index-requires : goal.index-requires
 index-requires g c =
     let now = state_in c.args.levels.now c.args.ongoing.now c.args.entries.now in
-    grind (arith, (done c.args.script.now now c.args.ongoing.now c.requires.may.under_way).traces_all, c.requires.may.user)
+    grind (arith, (done c.args.script.now now c.requires.may.goes.under_way).traces_all, c.requires.may.goes.user)
 
 pub index_mut-requires-2 : goal.index_mut-requires-2
 index_mut-requires-2 g c =
     let now = state_in c.args.levels.now c.args.ongoing.now c.args.entries.now in
-    grind (arith, (done c.args.script.now now c.args.ongoing.now c.requires.may.under_way).traces_all, c.requires.may.user)
+    grind (arith, (done c.args.script.now now c.requires.may.goes.under_way).traces_all, c.requires.may.goes.user)
 
 pub index-requires-2 : goal.index-requires-2
 index-requires-2 g c =
     let now = state_in c.args.levels.now c.args.ongoing.now c.args.entries.now in
-    grind (arith, (done c.args.script.now now c.args.ongoing.now c.requires.may.under_way).traces_all, c.requires.may.user)
+    grind (arith, (done c.args.script.now now c.requires.may.goes.under_way).traces_all, c.requires.may.goes.user)
 
 pub release-requires : goal.release-requires
 release-requires g c =
     let now = state_in c.args.levels.now c.args.ongoing.now c.args.entries.now in
-    subst (λ (n : ℕ). c.args.user < n) (sym (done c.args.script.now now c.args.ongoing.now c.requires.may.under_way).held_all) c.requires.may.user
+    subst (λ (n : ℕ). c.args.user < n) (sym (done c.args.script.now now c.requires.may.goes.under_way).held_all) c.requires.may.goes.user
 
 pub push-requires : goal.push-requires
 push-requires g c =
     let now = state_in c.args.levels.now c.args.ongoing.now c.args.entries.now in
-    omega (arith, few c.args.script.now now c.args.ongoing.now c.requires.may.under_way)
+    omega (arith, few c.args.script.now now c.requires.may.goes.under_way)
 
 pub settle-requires : goal.settle-requires
 settle-requires g c =
@@ -77,7 +77,7 @@ settle-requires g c =
     let now = state_in c.args.levels.now o c.args.entries.now in
     let u = c.args.user in
     let may = c.requires.may in
-    let w = c.in-Some-Close in
+    let w = c.in-Known-Close in
     let asked = closing s now o u may c.index_mut.result.now c.replace.result w.field-0 w.reply w.effect c.index_mut.ensures.value c.replace.ensures.value w.is w.field-0-is in
     let x = c.index-as_mut_slice-u.result in
     let here : slice_get now.users u ≡ Some x = found_there c.as_mut_slice.result.now now.users u x c.as_mut_slice.ensures.value c.index-as_mut_slice-u.is (below s now o u may) in
@@ -90,7 +90,7 @@ planned-requires-clause-trace g c =
     let now = state_in c.args.levels.now o c.args.entries.now in
     let u = c.args.user in
     let may = c.requires.may in
-    let w = c.in-Some-Close in
+    let w = c.in-Known-Close in
     let asked = closing s now o u may c.index_mut.result.now c.replace.result w.field-0 w.reply w.effect c.index_mut.ensures.value c.replace.ensures.value w.is w.field-0-is in
     let x = c.index-as_mut_slice-u.result in
     let here : slice_get now.users u ≡ Some x = found_there c.as_mut_slice.result.now now.users u x c.as_mut_slice.ensures.value c.index-as_mut_slice-u.is (below s now o u may) in
@@ -98,7 +98,7 @@ planned-requires-clause-trace g c =
     let reader : c.index-as_slice-u-2.result ≡ after s x w.effect =
     read_back now.users u (after s x w.effect) c.index-as_slice-u-2.result (below s now o u may)
     (c.index-as_slice-u-2.is ∙ ap (λ (xs : List User). get_or xs u c.index-as_slice-u-2.result) (c.as_slice-2.ensures.value ∙ parts_are now.users c.as_mut_slice.result.now u c.settle.new.self (after s x w.effect) c.as_mut_slice.ensures.value settled)) in
-    let within : u < length now.traces = subst (λ (n : ℕ). u < n) (sym (done s now o may.under_way).traces_all) may.user in
+    let within : u < length now.traces = subst (λ (n : ℕ). u < n) (sym (done s now may.goes.under_way).traces_all) may.goes.user in
     let empty : c.index-2.result.now ≡ [] = read_back now.traces u c.clear.new.self c.index-2.result.now within c.index-2.ensures ∙ c.clear.ensures in
     let P : User → List Step → Type 0 = λ z t. CanPlan s z t in
     subst (λ (z : User). P z c.index-2.result.now) (sym reader) (subst (P (after s x w.effect)) (sym empty) (shut_plan s now o u may w.reply w.effect asked x here))
@@ -111,7 +111,7 @@ returns-clause-happened g c =
     let now = state_in l o c.args.entries.now in
     let u = c.args.user in
     let may = c.requires.may in
-    let w = c.in-Some-Close in
+    let w = c.in-Known-Close in
     let asked = closing s now o u may c.index_mut.result.now c.replace.result w.field-0 w.reply w.effect c.index_mut.ensures.value c.replace.ensures.value w.is w.field-0-is in
     let x = c.index-as_mut_slice-u.result in
     let here : slice_get now.users u ≡ Some x = found_there c.as_mut_slice.result.now now.users u x c.as_mut_slice.ensures.value c.index-as_mut_slice-u.is (below s now o u may) in
@@ -121,10 +121,11 @@ returns-clause-happened g c =
     let reader : c.index-as_slice-u-2.result ≡ after s x w.effect =
     read_back now.users u (after s x w.effect) c.index-as_slice-u-2.result (below s now o u may)
     (c.index-as_slice-u-2.is ∙ ap (λ (xs : List User). get_or xs u c.index-as_slice-u-2.result) (c.as_slice-2.ensures.value ∙ parts)) in
-    let within : u < length now.traces = subst (λ (n : ℕ). u < n) (sym (done s now o may.under_way).traces_all) may.user in
+    let within : u < length now.traces = subst (λ (n : ℕ). u < n) (sym (done s now may.goes.under_way).traces_all) may.goes.user in
     let empty : c.index-2.result.now ≡ [] = read_back now.traces u c.clear.new.self c.index-2.result.now within c.index-2.ensures ∙ c.clear.ensures in
-    let then : c.in-Ok-planned.then ≡ next_after s (after s x w.effect) [] =
-    c.in-Ok-planned.ensures ∙ (ap (λ (z : User). next_after s z c.index-2.result.now) reader ∙ ap (next_after s (after s x w.effect)) empty) in
+    let then = c.planned.result in
+    let tells : Tells then (next_after s (after s x w.effect) []) =
+    subst (λ (q : List Step). Tells then (next_after s (after s x w.effect) q)) empty (subst (λ (z : User). Tells then (next_after s z c.index-2.result.now)) reader c.planned.ensures.told) in
     let steps : c.in-Ok.steps ≡ calls_in (trace_of now u) = c.in-Ok.ensures ∙ ap calls_in (in_place now.traces u c.index.result.now [] within c.index.ensures) in
     let place : (c.place-n.result.0, c.place-n.result.1) ≡ place_of x = c.place-n.ensures ∙ ap place_of (same_Some c.index-as_slice-u.result x (sym first ∙ here)) in
     let pushed : c.push.new.self ≡ c.args.entries.now ++ record { user = u; n = c.place-n.result.0; m = c.place-n.result.1; steps = c.in-Ok.steps; reply = w.reply } ∷ [] = grind (arith, common_steps) in
@@ -133,9 +134,23 @@ returns-clause-happened g c =
     let p : Ongoing = record {
       held = c.release.new.self;
       traces = with_item o.traces u c.clear.new.self;
-      nexts = with_item (with_item o.nexts u c.replace.new.dest) u c.in-Ok-planned.then;
+      nexts = with_item (with_item o.nexts u c.replace.new.dest) u then;
       phase = c.current_phase-ongoing.result;
     } in
-    shut s now o u may w.reply w.effect asked x here (state_in m p c.push.new.self) p c.in-Ok-planned.then
+    shut s now o u may w.reply w.effect asked x here (state_in m p c.push.new.self) p then
     (closed_is s l m o p c.args.entries.now c.push.new.self u x w.reply w.effect c.clear.new.self c.in-Ok.steps c.place-n.result.0 c.place-n.result.1 refl parts c.release.ensures.held refl c.clear.ensures steps place pushed)
-    then (ap (λ (n : Option Next). set (set o.nexts.items u n) u c.in-Ok-planned.then) c.replace.ensures.after) phase
+    tells (c.planned.ensures.first empty) (ap (λ (n : Upcoming). set (set o.nexts.items u n) u then) c.replace.ensures.after) phase
+
+pub returns-then-is_err-clause-left : goal.returns-then-is_err-clause-left
+returns-then-is_err-clause-left g c =
+    let s = c.args.script.now in
+    let o = c.args.ongoing.now in
+    let l = c.args.levels.now in
+    let now = state_in l o c.args.entries.now in
+    let u = c.args.user in
+    let may = c.requires.may in
+    let w = c.in-Known-Close in
+    let asked = closing s now o u may c.index_mut.result.now c.replace.result w.field-0 w.reply w.effect c.index_mut.ensures.value c.replace.ensures.value w.is w.field-0-is in
+    let same : c.push.new.self ≡ c.args.entries.now = grind (arith, common_steps) in
+    let p : Ongoing = record { held = o.held; traces = o.traces; nexts = with_item o.nexts u c.replace.new.dest; phase = o.phase } in
+    waits s now o u may w.reply w.effect asked (state_in l p c.push.new.self) p (ap (state_in l o) same) (ap (set o.nexts.items u) c.replace.ensures.after) refl

@@ -4,15 +4,12 @@ use Rattle.std.proofs.lemmas.Option.{slice_get-get_or}
 use Rattle.psos_model.specs.Turns.{enabled_in}
 use Rattle.psos_core.specs.Events.{core_state_of}
 use Rattle.psos_core.proofs.Found.{nobody}
-use Rattle.psos_core.proofs.Reached.{done}
 use Rattle.psos_core.proofs.Drawn.{numbers, found_more}
 use Rattle.psos_core.proofs.run.Core.enabled_users.Goals as goal
 use Rattle.psos_core.proofs.run.Core.enabled_users.Goals.{then-enabled, else-enabled}
 
-pub enabled-requires-clause-user : goal.enabled-requires-clause-user
-enabled-requires-clause-user g c =
-    let core = c.args.self.now in
-    grind (arith, (done core.script (core_state_of core) core.ongoing c.requires).users_all)
+pub enabled-requires : goal.enabled-requires
+enabled-requires g c = grind (arith, c.args.self.now.kept.users)
 
 pub users-preserved : goal.users-preserved
 users-preserved g c =
@@ -22,7 +19,7 @@ users-preserved g c =
     let x = get_or now.users u nobody in
     let below : u < length now.users = grind (arith) in
     let here : slice_get now.users u ≡ Some x = slice_get-get_or now.users u nobody below in
-    let number = numbers core.script now core.ongoing c.requires u x here in
+    let number = numbers core.script now c.requires u x here in
     let before = c.users.users.items in
     let all = enabled_in core.script now now.users in
     elim c.if-enabled.branch [

@@ -1,9 +1,14 @@
 use Rattle.psos_core.specs.Events.{core_state_of}
-use Rattle.psos_core.proofs.Stepping.{if_ok}
-use Rattle.psos_core.proofs.Drawn.{led_more}
+use Rattle.psos_core.proofs.Stepping.{if_ok, from_err}
+use Rattle.psos_core.proofs.Drawn.{led_more, led_still}
 use Rattle.psos_core.proofs.run.Core.event.Goals as goal
 
 pub returns-in_default-clause-after : goal.returns-in_default-clause-after
 returns-in_default-clause-after g c =
     let core = c.args.self.now in
-    if_ok c.step-made.result (λ stepped start turns h. led_more core.script (core_state_of core) _ core.ongoing _ start turns c.args.user h c.requires.may.enabled stepped) c.step-made.ensures.happened
+    if_ok c.step-made.result (λ stepped start turns h. led_more core.script (core_state_of core) _ start turns c.args.user h c.requires.may.enabled stepped.state) c.step-made.ensures.happened
+
+pub returns-in-Err-clause-left : goal.returns-in-Err-clause-left
+returns-in-Err-clause-left g c = λ start turns h.
+    let core = c.args.self.now in
+    led_still core.script (core_state_of core) _ start turns c.args.user h c.requires.may.enabled (from_err c.step-made.result _ _ c.in-Err.is c.step-made.ensures.left).state

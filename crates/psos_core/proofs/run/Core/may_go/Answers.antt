@@ -1,26 +1,27 @@
-use Rattle.std.proofs.Common.{ℕ, length, None, sym, ap, ◌∙◌, subst, arith}
+use Rattle.std.proofs.Common.{ℕ, sym, ap, ◌∙◌, arith}
 use Rattle.std.specs.Prelude.{slice_index_or}
-use Rattle.psos_core.specs.Events.{core_state_of, may_go, IsLeveled}
-use Rattle.psos_core.proofs.Stepping.{leveled}
-use Rattle.psos_core.proofs.Reached.{done}
+use Rattle.psos_core.specs.declared.upcoming.Upcoming.TheVariants as upcoming
+use Rattle.psos_core.specs.Plans.{next_for, may_go}
+use Rattle.psos_core.specs.Events.{core_state_of}
+use Rattle.psos_core.proofs.Stepping.{leveled, known_leveled}
 use Rattle.psos_core.proofs.run.Core.may_go.Goals as goal
 
 pub may_go-requires : goal.may_go-requires
 may_go-requires g c =
     let core = c.args.self.now in
     let now = core_state_of core in
-    let h = c.requires.under_way in
-    let d = done core.script now core.ongoing h in
+    let u = c.args.user in
     record {
-      users = omega (arith, ap length c.users.ensures, d.held_all);
-      user = omega (arith, c.requires.user, d.held_all);
-      all = h.after.kept.all ∙ (d.users_all ∙ sym d.held_all);
-      level = subst IsLeveled (sym (h.after.kept.each c.args.user)) (leveled core.script now c.args.user);
+      users = omega (arith, c.len.ensures.value, core.kept.users, core.kept.held);
+      user = omega (arith, c.requires, core.kept.held);
+      all = core.kept.all ∙ sym core.kept.held;
+      level = known_leveled (slice_index_or core.ongoing.nexts.items u upcoming.Nothing) (next_for core.script now u) (core.kept.each u) (leveled core.script now u);
     }
 
 pub returns : goal.returns
 returns g c =
     let core = c.args.self.now in
-    c.may_go.ensures
-    ∙ (ap (λ (n : ℕ). may_go n core.ongoing.held c.args.user (slice_index_or core.ongoing.nexts.items c.args.user None)) (ap length c.users.ensures)
-    ∙ ap (may_go (length core.script.users) core.ongoing.held c.args.user) (c.requires.under_way.after.kept.each c.args.user))
+    let now = core_state_of core in
+    let u = c.args.user in
+    let next = next_for core.script now u in
+    c.may_go.ensures next (core.kept.each u) ∙ ap (λ (n : ℕ). may_go n core.ongoing.held u next) (c.len.ensures.value ∙ core.kept.users)

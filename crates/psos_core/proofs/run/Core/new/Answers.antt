@@ -1,10 +1,11 @@
-use Rattle.std.proofs.Common.{List, [], length, map, replicate, ap, ◌∙◌}
+use Rattle.std.proofs.Common.{◌≡◌, List, [], length, replicate, sym, ap, subst, ◌∙◌}
+use Rattle.psos_calls.specs.Script.{Script}
 use Rattle.psos_calls.specs.User.{User}
 use Rattle.psos_model.specs.Run.{current_phase}
 use Rattle.psos_agree.proofs.ListsStand.{directories_are_lists}
 use Rattle.psos_core.specs.System.{levels_of, system_of}
-use Rattle.psos_core.specs.Events.{next_after}
-use Rattle.psos_core.proofs.Begun.{first_led}
+use Rattle.psos_core.specs.Plans.{state_in, AreFirst, IsKept}
+use Rattle.psos_core.proofs.Begun.{first_led, first_kept}
 use Rattle.psos_core.proofs.run.Core.new.Goals as goal
 
 pub new-requires-clause-lists : goal.new-requires-clause-lists
@@ -19,4 +20,17 @@ returns-clause-events g c = λ f start.
     let users = c.as_slice.ensures.value in
     first_led c.args.script _ c.args.levels o c.empty.result f start c.script.view_is c.empty.ensures
     (is.held ∙ ap (λ (us : List User). replicate (length us) []) users) (is.traces ∙ ap (λ (us : List User). replicate (length us) []) users)
-    (is.nexts ∙ ap (map (λ (x : User). next_after c.args.script x [])) users) (is.phase ∙ ap (current_phase c.args.script) users)
+
+pub invariant_of-result-clause-kept : goal.invariant_of-result-clause-kept
+invariant_of-result-clause-kept g c =
+    let s = c.args.script in
+    let l = c.args.levels in
+    let o = c.in_ok-ongoing.ongoing in
+    let is = c.in_ok-ongoing.ensures in
+    let start = c.requires.1 in
+    let users = c.as_slice.ensures.value in
+    let all : length l.privates.items ≡ length s.users = ap (λ (us : List User). length us) start.stands.users ∙ start.start.sound.all_users in
+    let first : AreFirst s l.privates.items o.nexts.items = subst (λ (us : List User). AreFirst s us o.nexts.items) users is.nexts in
+    let P : Script → Type 0 = λ z. IsKept z (state_in l o c.empty.result) o.nexts.items o.phase in
+    subst P (sym c.script.view_is) (first_kept s l o c.empty.result all (is.held ∙ ap (λ (us : List User). replicate (length us) []) users)
+    (is.traces ∙ ap (λ (us : List User). replicate (length us) []) users) first (is.phase ∙ ap (current_phase s) users))

@@ -8,9 +8,10 @@ use Rattle.psos_core.proofs.run.Core.turns.Given as goal
 -- each event so far was that of the user that was drawn
 abbrev pub invariant-turns : goal.invariant-turns
 invariant-turns g l =
-    (IsDrawn l.self.script (core_state_of l.self) l.self.ongoing (record { system = system_of l.initial.self.levels; flat = g.flat }) l.seed l.draws)
+    (IsDrawn l.self.script (core_state_of l.self) (record { system = system_of l.initial.self.levels; flat = g.flat }) l.seed l.draws)
     × (l.self.script ≡ l.initial.self.script)
     × (l.self.stopped ≡ None)
+    × (l.self.start_faults ≡ l.initial.self.start_faults)
     × (g.B.Store.faults l.initial.self.levels.pages.store ≤ g.B.Store.faults l.self.levels.pages.store)
 
 abbrev pub decreases-turns : goal.decreases-turns

@@ -1,0 +1,12 @@
+use Rattle.std.proofs.Common.{◌≡◌, [], length, take, replicate}
+use Rattle.psos_core.proofs.Begun.{AreBegun}
+use Rattle.psos_core.proofs.ongoing.Ongoing.begin.Given as goal
+
+-- the users so far hold nothing and have no open request, and what they ask first is told
+abbrev pub invariant-users : goal.invariant-users
+invariant-users l =
+    (AreBegun l.script l.users l.self.nexts.items l.u)
+    × (take l.u l.self.held ≡ replicate l.u [])
+    × (length l.self.held ≡ length l.users)
+    × (take l.u l.self.traces.items ≡ replicate l.u [])
+    × (length l.self.traces.items ≡ length l.users)
