@@ -15,6 +15,3 @@ pub use outcome::Outcome;
 pub use program::psos_main;
 pub use serial::serial_call;
 pub use turns::turns_call;
-
-#[cfg(test)]
-mod tests;
