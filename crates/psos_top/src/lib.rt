@@ -16,6 +16,3 @@ pub use outcome::Outcome;
 pub use program::{psos_main, psos_program};
 pub use serial::serial_call;
 pub use turns::turns_call;
-
-#[cfg(test)]
-mod tests;

@@ -1,5 +1,5 @@
 use Rattle.psos_model.specs.Boot.{boot}
-use Rattle.psos_rows.proofs.tests.core_text.Given as goal
+use Rattle.psos_compare.proofs.runs.core_text.Given as goal
 
 abbrev pub ghost-serial : goal.ghost-serial
 ghost-serial g a = boot a.self.now.script

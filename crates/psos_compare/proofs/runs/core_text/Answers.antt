@@ -4,7 +4,7 @@ use Rattle.psos_model.specs.Boot.{boot}
 use Rattle.psos_model.specs.Replay.{boot_system}
 use Rattle.psos_core.specs.System.{system_of}
 use Rattle.psos_core.proofs.FromBoot.{boot_starts}
-use Rattle.psos_rows.proofs.tests.core_text.Goals as goal
+use Rattle.psos_compare.proofs.runs.core_text.Goals as goal
 
 pub new-requires : goal.new-requires
 new-requires g c = (boot c.args.script, boot_starts c.args.script (system_of c.in_ok-levels.levels) c.requires c.in_ok-levels.ensures.booted)

@@ -1,0 +1,81 @@
+//! Runs scripts twice, by the plain program over flat objects and by the core over levels, and prints what they say.
+//!
+//! Scripts stand on standard input, each behind a line `== NAME`. For each, this line is printed, the transcript that
+//! the plain program gives, or the number of its lines where they are many, and whether the core gives the same.
+#![tactic(auto)]
+
+mod parts;
+mod runs;
+
+use parts::next_part;
+use psos_io::{NoStore, StdSink, StdSource, put_all, read_all};
+use psos_script::read_script;
+use runs::{core_text, flat_text};
+use std::alloc::{AllocError, Global};
+use std::process::ExitCode;
+
+// How many lines of a transcript are printed at most.
+const MOST_LINES: usize = 600;
+
+fn lines_of(text: &[u8]) -> usize {
+    let mut lines = 0usize;
+    'bytes: for byte in text {
+        if *byte == b'\n' {
+            lines = lines.saturating_add(1);
+        }
+    }
+    lines
+}
+
+// What both say of a script.
+fn put_both(alloc: Global, out: &mut Vec<u8>, text: &[u8]) -> Result<(), AllocError> {
+    let Ok(script) = read_script(alloc, text) else {
+        return out.extend_from_slice(b"no script\n");
+    };
+    let flat = flat_text(alloc, &script)?;
+    let lines = lines_of(&flat);
+    if lines <= MOST_LINES {
+        out.extend_from_slice(&flat)?;
+    } else {
+        psos_text::put_number(alloc, out, lines as u64)?;
+        out.extend_from_slice(b" lines\n")?;
+    }
+    let core = core_text(alloc, script, NoStore::new())?;
+    if core == flat {
+        return out.extend_from_slice(b"the levels say the same\n");
+    }
+    out.extend_from_slice(b"THE LEVELS SAY\n")?;
+    out.extend_from_slice(&core)
+}
+
+// What both say of each script.
+fn put_all_parts(alloc: Global, bytes: &[u8]) -> Result<Vec<u8>, AllocError> {
+    let mut out = Vec::new(alloc);
+    let mut rest = bytes;
+    'parts: for _ in 0..bytes.len() {
+        let Some((name, text, others)) = next_part(rest) else {
+            return Ok(out);
+        };
+        out.extend_from_slice(name)?;
+        out.extend_from_slice(b"\n")?;
+        put_both(alloc, &mut out, text)?;
+        rest = others;
+    }
+    Ok(out)
+}
+
+fn main(rt: HostRuntime) -> ExitCode {
+    let alloc = rt.alloc();
+    let mut input = StdSource::new(rt.stdin());
+    let mut output = StdSink::new(rt.stdout());
+    let Ok(bytes) = read_all(alloc, &mut input) else {
+        return ExitCode::from(3);
+    };
+    let Ok(text) = put_all_parts(alloc, &bytes) else {
+        return ExitCode::from(6);
+    };
+    match put_all(&mut output, &text) {
+        Ok(()) => ExitCode::from(0),
+        Err(_) => ExitCode::from(4),
+    }
+}
