@@ -27,8 +27,8 @@ use Rattle.psos_core.specs.UnderWay.{phases_most, asked_before, due, IsPast, IsA
 use Rattle.psos_model.specs.Serial.{IsCoreStart}
 use Rattle.psos_core.specs.Serving.{Asks, IsServed, IsFrontFrom, IsRunFrom, IsWholeRun}
 use Rattle.psos_core.proofs.Requests.{step_is}
-use Rattle.psos_core.proofs.Orders.{replay_from-more, entries_from-more, run_from-more, serial_more, serial_legal, order_of-more, order_length}
-use Rattle.psos_core.proofs.AllRuns.{runs_stand, runs_few}
+use Rattle.psos_model.proofs.Orders.{run_append, serial_more, serial_legal, order_more, order_length, replay_more, entries_more}
+use Rattle.psos_events.proofs.Replays.{runs_stand}
 use Rattle.psos_core.proofs.Phases.{asked_all}
 use Rattle.psos_core.proofs.Standing.{due_some, due_none, due_phase, past_phase, goes_within, is_first, nobody_left, at_first, at_more, at_user, at_phase}
 
@@ -54,7 +54,7 @@ module _ (s : Script) (y : System) (f : Flat) (start : IsCoreStart s y f) (now :
   flat = run_from s f order
 
   legal : IsLegalFrom s f order
-  legal = serial_legal s order f h.serial
+  legal = serial_legal s f order h.serial
 
   stands : StandsFor now flat
   stands = subst (λ (z : System). StandsFor z flat) (sym h.replayed) (runs_stand s y f order start legal).stands
@@ -119,25 +119,25 @@ module _ (s : Script) (y : System) (f : Flat) (start : IsCoreStart s y f) (now :
       order-is : order_of (entries ++ entry ∷ []) ≡ order ++ u ∷ []
       order-is =
           let step = step_is s now u x request there (due_some s x count request is).next in
-          order_of-more entries entry ∙ ap (λ (e : Entry). order ++ e.user ∷ []) served.entry-is ∙ ap (λ (r : System × Entry). order ++ r.1.user ∷ []) step
+          order_more entries entry ∙ ap (λ (e : Entry). order ++ e.user ∷ []) served.entry-is ∙ ap (λ (r : System × Entry). order ++ r.1.user ∷ []) step
 
       serial-is : IsSerialFrom s f (order_of (entries ++ entry ∷ []))
-      serial-is = subst (IsSerialFrom s f) (sym order-is) (serial_more s order f u h.serial first)
+      serial-is = subst (IsSerialFrom s f) (sym order-is) (serial_more s f order u h.serial first)
 
       replayed-is : new ≡ replay_from s y (order_of (entries ++ entry ∷ []))
       replayed-is =
           served.system-is ∙ ap (λ (z : System). (replay_step s z u).0) h.replayed
-          ∙ sym (replay_from-more s order y u) ∙ ap (replay_from s y) (sym order-is)
+          ∙ sym (replay_more s y order u) ∙ ap (replay_from s y) (sym order-is)
 
       users-are : (run_from s f (order_of (entries ++ entry ∷ []))).users ≡ new.users
       users-are =
-          let after = (runs_stand s y f (order_of (entries ++ entry ∷ [])) start (serial_legal s (order_of (entries ++ entry ∷ [])) f serial-is)).stands in
+          let after = (runs_stand s y f (order_of (entries ++ entry ∷ [])) start (serial_legal s f (order_of (entries ++ entry ∷ [])) serial-is)).stands in
           sym (ap (λ (z : System). z.users) replayed-is ∙ after.users)
 
       place-is : IsAt s new.users p u
       place-is =
           let t = turn s start.well_formed flat u going first.left in
-          let same : (answer s flat u).0.users ≡ new.users = ap (λ (g : Flat). g.users) (sym (run_from-more s order f u) ∙ ap (run_from s f) (sym order-is)) ∙ users-are in
+          let same : (answer s flat u).0.users ≡ new.users = ap (λ (g : Flat). g.users) (sym (run_append s order (u ∷ []) f) ∙ ap (run_from s f) (sym order-is)) ∙ users-are in
           let mine : phase_of s t.x ≡ Some p = ap (phase_of s) (same_Some t.x x (sym t.there ∙ here)) ∙ phase in
           subst (λ (xs : List User). IsAt s xs p u) (sym t.users ∙ same)
           (at_more s flat.users p u t.x t.y t.there place (goes_within s p u t.x t.y (going.each u t.x t.there).number t.on mine))
@@ -147,7 +147,7 @@ module _ (s : Script) (y : System) (f : Flat) (start : IsCoreStart s y f) (now :
         replayed = replayed-is;
         recorded = ap (λ (e : Entry). entries ++ e ∷ []) served.entry-is ∙ ap (λ (z : System). entries ++ (replay_step s z u).1 ∷ []) h.replayed
             ∙ ap (λ (es : List Entry). es ++ (replay_step s (replay_from s y order) u).1 ∷ []) h.recorded
-            ∙ sym (entries_from-more s order y u) ∙ ap (entries_from s y) (sym order-is);
+            ∙ sym (entries_more s y order u) ∙ ap (entries_from s y) (sym order-is);
         serial = serial-is;
         place = place-is;
       }
@@ -155,7 +155,7 @@ module _ (s : Script) (y : System) (f : Flat) (start : IsCoreStart s y f) (now :
       -- which it does at most so often
       pub one_fewer : length entries + 1 ≤ 32768
       one_fewer =
-          let legal = serial_legal s (order_of (entries ++ entry ∷ [])) f serial-is in
+          let legal = serial_legal s f (order_of (entries ++ entry ∷ [])) serial-is in
           omega (arith, orders_end s f (order_of (entries ++ entry ∷ [])) start.well_formed start.start legal, order_length (entries ++ entry ∷ []), length-append entries (entry ∷ []))
 
   -- ---- the next user, and the next phase
@@ -197,7 +197,7 @@ at_start s y f now h e = record {
 pub front_so_far : (s : Script) (y : System) (f : Flat) (now : System) (entries : List Entry) (p u : ℕ) → IsCoreStart s y f → HasServed s y f now entries p u → IsFrontFrom s y f entries
 front_so_far s y f now entries p u start h =
     let order = order_of entries in
-    let legal = serial_legal s order f h.serial in
+    let legal = serial_legal s f order h.serial in
     record {
       legal = legal;
       recorded = h.recorded;
@@ -213,7 +213,7 @@ at_end s y f now entries p start all h =
       front = front;
       over = λ u. ap (λ (us : List User). has_left s us u) (sym stands.users) ∙ nobody_left s now.users p (omega (arith, all)) h.place u;
       ordered = h.serial;
-      few = omega (arith, ap calls_of h.recorded, runs_few s y f order start front.legal, orders_end s f order start.well_formed start.start front.legal);
+      few = omega (arith, ap calls_of h.recorded, (runs_stand s y f order start front.legal).few, orders_end s f order start.well_formed start.start front.legal);
       replayed = h.replayed;
       stands = stands;
       lawful = runs_are_lawful s f order start.well_formed start.start.sound;

@@ -25,7 +25,7 @@ use Rattle.psos_events.proofs.Progress.{never_stuck}
 use Rattle.psos_events.proofs.Kept.{stands_now}
 use Rattle.psos_core.specs.Events.{HasLed, IsUnderWay, MayHappen}
 use Rattle.psos_core.specs.Serving.{Start, IsFrontFrom, IsRunFrom}
-use Rattle.psos_core.proofs.AllRuns.{runs_few}
+use Rattle.psos_events.proofs.Replays.{runs_stand}
 use Rattle.psos_core.proofs.Reached.{done}
 
 -- ---- one event more at the end
@@ -257,7 +257,7 @@ whole s c start seed x h over =
         over = λ u. ap (λ (e : CoreState). has_left s e.users u) (sym h.after.state) ∙ over u;
         closes = ap (λ (e : CoreState). order_of e.entries) (sym h.after.state);
       };
-      few = omega (arith, ap calls_of d.entries, runs_few s y f order h.after.starts d.legal, orders_end s f order h.after.starts.well_formed h.after.starts.start d.legal);
+      few = omega (arith, ap calls_of d.entries, (runs_stand s y f order h.after.starts d.legal).few, orders_end s f order h.after.starts.well_formed h.after.starts.start d.legal);
       replayed = left;
       stands = subst (λ (z : System). StandsFor z (run_from s f order)) (sym left) now.stands;
       lawful = runs_are_lawful s f order h.after.starts.well_formed h.after.starts.start.sound;

@@ -1,5 +1,4 @@
 pub mod Phases
-pub mod Orders
 pub mod Scripts
 pub mod Standing
 pub mod Requests
@@ -9,7 +8,6 @@ pub mod Found
 pub mod Served
 pub mod FromBoot
 pub mod Booted
-pub mod AllRuns
 pub mod Stepping
 pub mod Reached
 pub mod Drawn

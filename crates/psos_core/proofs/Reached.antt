@@ -30,7 +30,7 @@ use Rattle.psos_core.specs.declared.ongoing.Ongoing.{Ongoing}
 use Rattle.psos_core.specs.Plans.{next_for, CanPlan, may_go, known_of}
 use Rattle.psos_core.specs.declared.upcoming.Upcoming.TheVariants as upcoming
 use Rattle.psos_core.specs.Events.{IsUnderWay, MayStep}
-use Rattle.psos_core.proofs.Orders.{order_length}
+use Rattle.psos_model.proofs.Orders.{order_length}
 use Rattle.psos_core.proofs.Stepping.{event, event_is, enabled_is, told_is}
 
 -- what a user's plan does next can be told

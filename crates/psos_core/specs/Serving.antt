@@ -24,11 +24,6 @@ pub record Start : Type 0 where
   pub system : System
   pub flat : Flat
 
--- the replay of an order stands for its run, and answers as it does
-pub record RunStands (s : Script) (y : System) (f : Flat) (order : List ℕ) : Type 0 where
-  pub stands : StandsFor (replay_from s y order) (run_from s f order)
-  pub answered : map answered_of (entries_from s y order) ≡ answers_from s f order
-
 -- ---- one request
 
 -- each call of the plan can be made, one after another

@@ -4,7 +4,6 @@
 mod boot;
 mod event;
 mod events;
-mod laws;
 mod levels;
 mod ongoing;
 mod perform;
@@ -18,6 +17,5 @@ mod turns;
 mod upcoming;
 
 pub use event::Event;
-pub use laws::runs_stand;
 pub use levels::{Levels, act_issuer};
 pub use run::{Core, Parts};

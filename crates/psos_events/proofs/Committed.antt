@@ -21,7 +21,7 @@ use Rattle.psos_events.specs.Committed.{if_free, last_free, committed_by, Commit
 use Rattle.psos_events.proofs.Under.{Same, stays_same, same_back, same_then}
 use Rattle.psos_events.proofs.Traces.{traced_stays}
 use Rattle.psos_events.proofs.Holders.{IsLeft, by_set, not_held}
-use Rattle.psos_events.proofs.Replays.{order_more, replay_more}
+use Rattle.psos_model.proofs.Orders.{order_more, replay_more}
 use Rattle.psos_events.proofs.Moves.{IsAsking, by_event}
 use Rattle.psos_events.proofs.Kept.{HasDone, free_left, begins, nothing_held, now, event_keeps, has_done}
 

@@ -40,7 +40,9 @@ use Rattle.psos_calls.specs.Locks.{box_of}
 use Rattle.psos_events.proofs.Under.{stays_same, same_back, acts_alike, lock_is_lock}
 use Rattle.psos_events.proofs.Traces.{Covers, step_of, traced_strangers, trace_more, trace_seen, trace_whole}
 use Rattle.psos_events.proofs.Holders.{IsSet, by_set, IsLeft, AreApart, taken_apart, called_apart, closed_apart, seen_closed}
-use Rattle.psos_events.proofs.Replays.{order_more, replay_more, entries_more, legal_more, RunStands, replays_stand}
+use Rattle.psos_model.proofs.Orders.{order_more, replay_more, entries_more, legal_more}
+use Rattle.psos_events.specs.Replays.{RunStands}
+use Rattle.psos_events.proofs.Replays.{runs_stand}
 use Rattle.psos_events.proofs.Moves.{IsAsking, by_event}
 
 -- ---- lists
@@ -72,7 +74,7 @@ pub record HasDone (s : Script) (y : System) (f : Flat) (c : CoreState) : Type 0
   pub apart : AreApart (length s.users) (λ u. locks_of c u) (λ u. trace_of c u) (committed s y c).levels c.levels
 
 pub stands_now : (s : Script) (y : System) (f : Flat) (c : CoreState) → IsCoreStart s y f → HasDone s y f c → RunStands s y f (order_of c.entries)
-stands_now s y f c start h = replays_stand s y f (order_of c.entries) start.well_formed start.start start.stands h.legal
+stands_now s y f c start h = runs_stand s y f (order_of c.entries) start h.legal
 
 -- ---- at the start
 

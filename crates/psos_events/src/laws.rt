@@ -2,7 +2,15 @@
 ghost use Rattle.psos_model.specs.Laws.{OneTurnsOrder};
 ghost use Rattle.psos_model.specs.Serial.{EventsAreSerial, NeverStuck};
 ghost use Rattle.psos_events.specs.Committed.{CommittedWasFree, ClosesCommit, OthersCommitElsewhere};
+ghost use Rattle.psos_events.specs.Replays.{RunsStand};
 ghost use Rattle.psos_events.specs.Events.{BootIsCoreStart, EventsCommit, EventsCanHappen, EventsGoOn, EventsEnd};
+
+/// After every legal order of users from a start, and so after each of its requests, the levels of the replay stand
+/// for the flat state of the run, which is sound; what was answered is the same; and a request makes at most 44 calls
+/// (docs/promises.md, "Stands for").
+pub fn runs_stand()
+    ensures { RunsStand }
+{}
 
 /// After any enabled events from a start, what the core has done is the replay of the requests that closed, one after
 /// another, and the order of their closes is legal (docs/levels.md, "Locks").

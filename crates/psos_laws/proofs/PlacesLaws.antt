@@ -9,6 +9,7 @@ use Rattle.psos_model.specs.Outcome.{Source}
 use Rattle.psos_model.specs.Answer.{answer}
 use Rattle.psos_model.specs.Run.{run_from}
 use Rattle.psos_model.specs.Sound.{IsSound}
+use Rattle.psos_model.proofs.Orders.{run_append}
 use Rattle.psos_laws.specs.Landings.{Landing}
 use Rattle.psos_laws.specs.History.{event_at, history_from}
 use Rattle.psos_laws.specs.Trails.{IsConfined}
@@ -67,10 +68,6 @@ run_keeps s keeps (u ∷ us) f sound = run_keeps s keeps us (answer s f u).0 (ke
 confined_from : (s : Script) → KeepsSound s → (order : List ℕ) (f : Flat) (v x m : ℕ) → IsSound s f → IsConfined f v x m → IsConfined (run_from s f order) v x m
 confined_from s keeps [] f v x m sound h = h
 confined_from s keeps (u ∷ us) f v x m sound h = confined_from s keeps us (answer s f u).0 v x m (keeps f u sound) (confined_stays_once s f u v x m sound h)
-
-pub run_append : (s : Script) (order more : List ℕ) (f : Flat) → run_from s f (order ++ more) ≡ run_from s (run_from s f order) more
-run_append s [] more f = refl
-run_append s (u ∷ us) more f = run_append s us more (answer s f u).0
 
 pub confined_stays : (s : Script) → KeepsSound s → (start : Flat) → IsSound s start → (order more : List ℕ) (v x m : ℕ)
     → IsConfined (run_from s start order) v x m → IsConfined (run_from s start (order ++ more)) v x m

@@ -11,21 +11,16 @@ use Rattle.psos_model.specs.Kept.{IsKept}
 use Rattle.psos_model.specs.Run.{IsLegalFrom, run_from, run, has_left}
 use Rattle.psos_model.specs.Sound.{IsSound}
 use Rattle.psos_model.proofs.AboveAnswers.{at_most_two}
+use Rattle.psos_model.proofs.Orders.{run_append, legal_more}
 use Rattle.psos_laws.specs.History.{history}
 use Rattle.psos_laws.specs.Trails.{IsConfined}
 use Rattle.psos_laws.specs.Laws.{IsLawful}
 use Rattle.psos_laws.proofs.BootSound.{boot_start}
 use Rattle.psos_laws.proofs.OrdersEnd.{orders_end}
-use Rattle.psos_laws.proofs.PlacesLaws.{run_append, confined_stays_once}
+use Rattle.psos_laws.proofs.PlacesLaws.{confined_stays_once}
 use Rattle.psos_laws.proofs.PlacesRuns.{run_is_lawful}
 use Rattle.psos_laws.proofs.SharedSound.{runs_kept}
 use Rattle.psos_laws.proofs.UsersStep.{can_step}
-
--- ---- one request more
-
-legal_from : (s : Script) (order : List ℕ) (u : ℕ) (f : Flat) → IsLegalFrom s f order → IsTrue (has_left s (run_from s f order).users u) → IsLegalFrom s f (order ++ u ∷ [])
-legal_from s [] u f legal left = (left, tt)
-legal_from s (v ∷ vs) u f legal left = (legal.0, legal_from s vs u (answer s f v).0 legal.1 left)
 
 -- each request uses two identifiers at most
 next_most : (s : Script) (order : List ℕ) (f : Flat) → (run_from s f order).next ≤ f.next + 2 * length order
@@ -81,7 +76,7 @@ pub laws_more : (t : Script) (order later : List ℕ) (f g : Flat) (u : ℕ) →
 laws_more t order later f g u left orders states h =
     let here : IsTrue (has_left t (run t order).users u) = subst (λ (x : Flat). IsTrue (has_left t x.users u)) h.state left in
     let after : g ≡ run t (order ++ u ∷ []) = states ∙ (ap (λ x. (answer t x u).0) h.state ∙ sym (run_append t order (u ∷ []) (boot t))) in
-    laws_same t (order ++ u ∷ []) later g g orders refl (laws_by t (order ++ u ∷ []) h.formed (legal_from t order u (boot t) h.legal here) g after)
+    laws_same t (order ++ u ∷ []) later g g orders refl (laws_by t (order ++ u ∷ []) h.formed (legal_more t (boot t) order u h.legal here) g after)
 
 -- so many requests at most were answered
 pub laws_few : (t : Script) (order : List ℕ) (f : Flat) → AreLaws t order f → length order ≤ 32768

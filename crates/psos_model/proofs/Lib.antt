@@ -10,3 +10,4 @@ pub mod Found
 pub mod AnyKept
 pub mod Stepped
 pub mod BootRows
+pub mod Orders

@@ -11,6 +11,7 @@ use Rattle.psos_model.specs.Run.{IsLegalFrom, run, run_from, answers, answers_fr
 use Rattle.psos_model.specs.Sound.{IsSound}
 use Rattle.psos_model.specs.Laws.{numbers}
 use Rattle.psos_model.proofs.AboveAnswers.{at_most_two}
+use Rattle.psos_model.proofs.Orders.{run_append, answers_more, legal_more, serial_more, serial_legal}
 use Rattle.psos_print.specs.Line.{answered_in}
 use Rattle.psos_laws.proofs.SharedSound.{answers_kept}
 use Rattle.psos_laws.proofs.BootSound.{boot_sound, boot_start}
@@ -19,28 +20,7 @@ use Rattle.psos_model.specs.SerialOrder.{IsFirst, IsSerialFrom}
 use Rattle.psos_rows.specs.Serial.{IsSerialRun, order_in}
 use Rattle.psos_rows.specs.Running.{IsRunning, IsNext}
 
--- ---- one user more at the end
-
-run_more : (s : Script) (f : Flat) (us : List ℕ) (u : ℕ) → run_from s f (us ++ u ∷ []) ≡ (answer s (run_from s f us) u).0
-run_more s f [] u = refl
-run_more s f (v ∷ us) u = run_more s (answer s f v).0 us u
-
-answers_more : (s : Script) (f : Flat) (us : List ℕ) (u : ℕ) → answers_from s f (us ++ u ∷ []) ≡ answers_from s f us ++ (answer s (run_from s f us) u).1 ∷ []
-answers_more s f [] u = refl
-answers_more s f (v ∷ us) u = ap (λ rest. (answer s f v).1 ∷ rest) (answers_more s (answer s f v).0 us u)
-
-serial_more : (s : Script) (f : Flat) (us : List ℕ) (u : ℕ) → IsSerialFrom s f us → IsFirst s (run_from s f us).users u → IsSerialFrom s f (us ++ u ∷ [])
-serial_more s f [] u h first = (first, tt)
-serial_more s f (v ∷ us) u h first = (h.0, serial_more s (answer s f v).0 us u h.1 first)
-
-legal_more : (s : Script) (f : Flat) (us : List ℕ) (u : ℕ) → IsLegalFrom s f us → IsTrue (has_left s (run_from s f us).users u) → IsLegalFrom s f (us ++ u ∷ [])
-legal_more s f [] u h left = (left, tt)
-legal_more s f (v ∷ us) u h left = (h.0, legal_more s (answer s f v).0 us u h.1 left)
-
--- a serial order is legal
-serial_legal : (s : Script) (f : Flat) (us : List ℕ) → IsSerialFrom s f us → IsLegalFrom s f us
-serial_legal s f [] h = tt
-serial_legal s f (u ∷ us) h = (h.0.left, serial_legal s (answer s f u).0 us h.1)
+-- ---- numbers
 
 plus_zero : (n : ℕ) → n ≡ n + 0
 plus_zero n = omega arith
@@ -94,7 +74,7 @@ so_far_next s w f g lines n u l h first next =
         sound = subst (IsSound s) (sym next.state) (answers_kept s f u w h.running.sound);
         low = omega (arith, two, rises, low);
       };
-      state = now ∙ sym (run_more s (boot s) (order_in lines) u) ∙ ap (run s) (sym order);
+      state = now ∙ sym (run_append s (order_in lines) (u ∷ []) (boot s)) ∙ ap (run s) (sym order);
       serial = subst (IsSerialFrom s (boot s)) (sym order) (serial_more s (boot s) (order_in lines) u h.serial (subst (λ (e : Flat). IsFirst s e.users u) h.state first));
       answers_are = map-append answered_in lines (l ∷ []) ∙ ap (λ said. said ++ answered_in l ∷ []) h.answers_are
           ∙ ap (λ a. answers s (order_in lines) ++ a ∷ []) said
