@@ -10,15 +10,25 @@ use psos_words::{Page, Word};
 pub enum LevelAnswer {
     /// The call was made; there is nothing to tell.
     Done,
+    /// The label of a procedure record, and its linkage.
     Entered { label: u8, link: Word },
+    /// A word: a message, a word of a page, or the capability on a representation.
     Got(Word),
+    /// The kind of a user object.
     Is(Kind),
+    /// The guard of a directory.
     Guard(Rights),
+    /// The identifier of a representation.
     Rep(Uid),
+    /// The page and the place on it where a word lies.
     At { page: u16, off: u8 },
+    /// A slot of eight pages.
     Slot(u16),
+    /// A number of words.
     Len(u64),
+    /// All words of a page.
     Whole(Page),
+    /// A capability on a new identifier.
     New(Cap),
     /// Nothing was changed.
     No(Refusal),

@@ -7,134 +7,171 @@ use psos_words::Word;
 #[derive(Clone, Copy)]
 pub enum LevelCall {
     // Level 13
+    /// Nothing is asked; the level is held from here on.
     Hold13,
+    /// Whether guard 1 lets the word in.
     Admit {
         word: Word,
     },
+    /// A new procedure record, with the number of its code block and its linkage.
     CodeMake {
         uid: Uid,
         label: u8,
         link: Word,
     },
+    /// The label and the linkage of the procedure record that the capability names, by its right enter.
     Enter {
         cap: Cap,
     },
+    /// The procedure record goes.
     CodeGone {
         uid: Uid,
     },
     // Level 12
+    /// The word goes last into the mailbox of the process that the capability names, by its right send.
     Post {
         to: Cap,
         word: Word,
     },
+    /// The first message of the mailbox leaves it.
     Draw {
         uid: Uid,
     },
     // Level 11
+    /// Nothing is asked; the level is held from here on.
     Hold11,
+    /// Whether one more user object fits.
     Room,
+    /// A new user object is told, with its kind.
     Enrol {
         uid: Uid,
         kind: Kind,
     },
+    /// The kind of a user object.
     KindOf {
         uid: Uid,
     },
+    /// The user object is told no more.
     Forget {
         uid: Uid,
     },
     // Level 10
+    /// The guard of the directory that the capability names, by the right.
     DirAt {
         cap: Cap,
         right: Right,
     },
+    /// A new directory, with its guard.
     DirMake {
         uid: Uid,
         guard: Rights,
     },
+    /// The directory goes.
     DirGone {
         uid: Uid,
     },
     // Level 9
+    /// The identifier of the representation of an object or a directory.
     RepOf {
         uid: Uid,
     },
+    /// Whether the capability names a live type, and has the right make.
     TypeAt {
         cap: Cap,
     },
+    /// A new type.
     TypeMake {
         uid: Uid,
     },
+    /// A new object of a type, or a new directory without one, with the capability on its representation.
     ObjMake {
         uid: Uid,
         of: Option<Uid>,
         rep: Cap,
     },
+    /// The capability on the representation of the object `on`, by the right impl on its type `of`.
     Impl {
         of: Cap,
         on: Cap,
     },
+    /// The object or the directory goes; its representation is told.
     ObjGone {
         uid: Uid,
     },
+    /// The type goes, where no live object has it.
     TypeGone {
         uid: Uid,
     },
     // Level 8
+    /// Where word `off` of the segment or window lies, by the right `need`, where the guard lets the word in, if one is
+    /// given.
     Locate {
         cap: Cap,
         off: u64,
         need: Right,
         word: Option<Word>,
     },
+    /// The slot of a segment.
     SlotOf {
         uid: Uid,
     },
+    /// A new segment of `len` words in a slot, with its guard.
     SegMake {
         uid: Uid,
         slot: u16,
         len: u16,
         guard: Rights,
     },
+    /// The segment goes with the windows over it; its slot is told.
     SegGone {
         uid: Uid,
     },
+    /// Whether a window over these words may be made: by the right window, within the length, and where one more fits.
     WinRoom {
         cap: Cap,
         base: u64,
         len: u64,
     },
+    /// A new window over these words.
     WinMake {
         uid: Uid,
         cap: Cap,
         base: u64,
         len: u64,
     },
+    /// How many words the segment or window has, by the right read.
     Length {
         cap: Cap,
     },
     // Level 7
+    /// The least free slot is taken, and all its words are data 0.
     PageTake,
+    /// The slot is free.
     PageDrop {
         slot: u16,
     },
+    /// Word `off` of the page.
     WordGet {
         page: u16,
         off: u8,
     },
+    /// Word `off` of the page is changed.
     WordPut {
         page: u16,
         off: u8,
         word: Word,
     },
+    /// All words of the page.
     PageGet {
         page: u16,
     },
+    /// The four words from `off` on of the page are changed.
     FourPut {
         page: u16,
         off: u8,
         words: [Word; 4],
     },
     // Level 0
+    /// A capability on the next identifier, with all rights; the next rises by one.
     Fresh,
 }

@@ -5,18 +5,31 @@ ghost use Rattle.psos_calls.specs.Rights.{bit_of};
 /// The rights that requests need. Which bit stands for one goes by the kind of the object, so some share a bit.
 #[derive(Clone, Copy)]
 pub enum Right {
+    /// On a segment or window: to read its words and its length.
     Read,
+    /// On a segment or window: to change its words.
     Write,
+    /// On a segment or window: to make a window over it.
     Window,
+    /// On a directory: to find an entry, and to take the directory into a name space.
     Lookup,
+    /// On a directory: to make a plain entry.
     Bind,
+    /// On a directory: to take a plain entry out.
     Unbind,
+    /// On a directory: to be told its names.
     List,
+    /// On a directory: to make a user object there.
     Create,
+    /// On a directory: to delete a user object that was made there.
     Delete,
+    /// On a type: to make objects of it.
     Make,
+    /// On a type: to open objects of it.
     Impl,
+    /// On a procedure record: to call it.
     Enter,
+    /// On a process: to send to it.
     Send,
 }
 
