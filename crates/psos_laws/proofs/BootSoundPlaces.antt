@@ -33,7 +33,7 @@ use Rattle.psos_model.specs.Kept.{IsKept, entry_in}
 use Rattle.psos_model.specs.Roles.{HiddenIn}
 use Rattle.psos_model.proofs.NameOrder.{name_cmp_total, same_name}
 use Rattle.psos_model.proofs.Asked.{got_within}
-use Rattle.psos_laws.proofs.BootSoundTables.{each_row, segments_are, boxes_are, dirs_are, root_row, home_row}
+use Rattle.psos_model.proofs.BootRows.{each_row, segments_are, boxes_are, dirs_are, root_row, home_row}
 use Rattle.psos_laws.proofs.BootSoundRoles.{boot_role, Named, Root, Process, Home, Scratch, named_below, named_open, one_directory}
 use Rattle.psos_laws.proofs.BootSoundRows.{rows_as, boot_dirs_sound, home_lives, IsScratch, life_is, scratch_lives}
 use Rattle.psos_laws.proofs.BootSoundUsers.{boot_user_is}

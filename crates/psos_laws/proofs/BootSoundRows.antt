@@ -22,7 +22,7 @@ use Rattle.psos_model.specs.Roles as roles
 use Rattle.psos_model.specs.SoundRows.{IsGuard, IsSoundSegment, IsSoundDirectory, IsSoundProcess}
 use Rattle.psos_model.specs.Sound.{IsFromBoot}
 use Rattle.psos_model.proofs.NameOrder.{name_cmp_total}
-use Rattle.psos_laws.proofs.BootSoundTables.{each_row, base_row, user_row, rows_size, segments_are, life_are, boxes_are, dirs_are, root_row, home_row}
+use Rattle.psos_model.proofs.BootRows.{each_row, base_row, user_row, rows_size, segments_are, life_are, boxes_are, dirs_are, root_row, home_row}
 use Rattle.psos_laws.proofs.BootSoundRoles.{boot_role, root_role, root_rep_role, process_role, home_role, home_rep_role, scratch_role}
 
 -- what holds of each row holds, where the table is another's
@@ -93,7 +93,7 @@ boot_dirs_sound s =
 
 root_lives : (s : Script) → at (boot s).dirs 1 ≡ Some root_row
 root_lives s =
-    ap (λ t. at t 1) (dirs_are 0 s.users) ∙ (base_row (put empty 1 root_row) 4 home_row 1 (λ j e. omega (arith, e)) 0 s.users ∙ at-put_here empty 1 root_row)
+    ap (λ t. at t 1) (dirs_are 0 s.users) ∙ (base_row (put empty 1 root_row) 4 home_row 1 0 s.users (λ j from e. omega (arith, e)) ∙ at-put_here empty 1 root_row)
 
 pub boot_root : (s : Script) → IsFromBoot (boot s) 1 2
 boot_root s = record { row = root_row; live = root_lives s; rep-is = refl; guard = refl }

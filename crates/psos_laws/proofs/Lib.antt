@@ -24,13 +24,11 @@ pub mod Fair
 pub mod FairAll
 pub mod StepsAnswered
 pub mod PlacesKept
-pub mod BootSoundTables
 pub mod BootSoundRoles
 pub mod BootSoundRows
 pub mod BootSoundUsers
 pub mod BootSoundPlaces
 pub mod BootSound
-pub mod UsersParts
 pub mod PlacesLed
 pub mod PlacesOrigins
 pub mod PlacesTrails
