@@ -8,19 +8,19 @@ use Rattle.psos_table.proofs.Tables.{at-empty, at-put_here, row_put, row_empty}
 use Rattle.psos_words.specs.declared.word.Word.{Word}
 use Rattle.psos_words.specs.Words.{zeros, word_at}
 use Rattle.psos_calls.specs.declared.seg_row.SegRow.{SegRow}
-use Rattle.psos_calls.specs.Level7.{IsTaken, slot_words, words_in}
-use Rattle.psos_calls.specs.Script.{Script}
-use Rattle.psos_calls.specs.Tests.{if_there}
+use Rattle.psos_calls.specs.Levels.Level7.{IsTaken, slot_words, words_in}
+use Rattle.psos_calls.specs.Language.Script.{Script}
+use Rattle.psos_calls.specs.Language.Tests.{if_there}
 use Rattle.psos_model.specs.Flat.{Segment, Directory}
-use Rattle.psos_model.specs.Changes.{new_segment}
-use Rattle.psos_model.specs.Boot.{boot, guard_1, home_of, home_rep_of, scratch_of, boot_dirs}
-use Rattle.psos_model.specs.BootLevels.{rep_row, scratch_row, home_slot, scratch_slot, home_words, boot_reps, boot_rows, boot_objects, boot_guards, boot_pages}
+use Rattle.psos_model.specs.Flat.Changes.{new_segment}
+use Rattle.psos_model.specs.Flat.Boot.{boot, guard_1, home_of, home_rep_of, scratch_of, boot_dirs}
+use Rattle.psos_model.specs.Replay.BootLevels.{rep_row, scratch_row, home_slot, scratch_slot, home_words, boot_reps, boot_rows, boot_objects, boot_guards, boot_pages}
 use Rattle.psos_model.specs.Replay.{boot_system}
-use Rattle.psos_model.specs.StandsFor.{IsLive, HoldsEntries, stored, object_row}
+use Rattle.psos_model.specs.Replay.StandsFor.{IsLive, HoldsEntries, stored, object_row}
 use Rattle.psos_model.proofs.BootRows.{each_row, base_row, user_row, rows_mapped, put_mapped, segments_are, dirs_are, reps_are, scratch_are, objects_are, guards_are, root_row, home_row, as_object}
 use Rattle.psos_agree.specs.Agreement.{BootStands}
-use Rattle.psos_agree.proofs.BootStandsSlots.{home_taken, scratch_taken, slot_owner, all_slots}
-use Rattle.psos_agree.proofs.BootStandsWords.{zeros_alike, home_length, root_entries, home_entries}
+use Rattle.psos_agree.proofs.BootSlots.{home_taken, scratch_taken, slot_owner, all_slots}
+use Rattle.psos_agree.proofs.BootWords.{zeros_alike, home_length, root_entries, home_entries}
 
 -- what holds of the rows of a table that is equal
 rows_as : {X : Type 0} (Q : ℕ → X → Type 0) (m n : Table X) → m ≡ n → ((u : ℕ) (x : X) → at n u ≡ Some x → Q u x) → (u : ℕ) (x : X) → at m u ≡ Some x → Q u x

@@ -13,16 +13,17 @@ use Rattle.psos_words.specs.Words.{word_at}
 use Rattle.psos_calls.specs.declared.frame.Frame.{Frame}
 use Rattle.psos_calls.specs.declared.seg_row.SegRow.{SegRow}
 use Rattle.psos_calls.specs.declared.win_row.WinRow.{WinRow}
-use Rattle.psos_calls.specs.Script.{Script}
-use Rattle.psos_calls.specs.User.{User, here}
-use Rattle.psos_calls.specs.Level8.{Shape, View, view, whole, through, shape_of, shapes}
+use Rattle.psos_calls.specs.Language.Script.{Script}
+use Rattle.psos_calls.specs.Language.User.{User, here}
+use Rattle.psos_calls.specs.Levels.Level8.{view, shape_of, shapes}
+use Rattle.psos_calls.specs.Language.Views.{Shape, View, whole, through}
 use Rattle.psos_model.specs.declared.place.Place.{Place}
 use Rattle.psos_model.specs.declared.place.Place.TheVariants.{ImplOf}
 use Rattle.psos_model.specs.Flat.{Flat, Segment, Directory, flat_view, flat_shape, flat_shapes}
-use Rattle.psos_model.specs.Places.{cap_at, cap_in, reg_place}
+use Rattle.psos_model.specs.Flat.Places.{cap_at, cap_in, reg_place}
 use Rattle.psos_model.specs.Replay.{System}
 use Rattle.psos_model.specs.Sound.{IsSound}
-use Rattle.psos_model.specs.StandsFor.{StandsFor}
+use Rattle.psos_model.specs.Replay.StandsFor.{StandsFor}
 
 -- ---- a capability in a register
 

@@ -4,21 +4,21 @@ use Rattle.psos_calls.specs.declared.request.Request.{Request}
 use Rattle.psos_calls.specs.declared.reply.Reply.{Reply}
 use Rattle.psos_calls.specs.declared.reply.Reply.TheVariants.{No}
 use Rattle.psos_calls.specs.declared.effect.Effect.{Effect}
-use Rattle.psos_calls.specs.Script.{Script, IsWellFormed}
-use Rattle.psos_calls.specs.Request.{InRange}
-use Rattle.psos_calls.specs.User.{User, next_request, CanMake}
+use Rattle.psos_calls.specs.Language.Script.{Script, IsWellFormed}
+use Rattle.psos_calls.specs.Language.Request.{InRange}
+use Rattle.psos_calls.specs.Language.User.{User, next_request, CanMake}
 use Rattle.psos_calls.specs.Levels.{Levels}
-use Rattle.psos_calls.specs.Lists.{HasLists}
+use Rattle.psos_calls.specs.Levels.Lists.{HasLists}
 use Rattle.psos_calls.specs.Plan.{Runs, run_plan}
-use Rattle.psos_calls.specs.PlanOf.{plan_of}
+use Rattle.psos_calls.specs.Plan.Requests.{plan_of}
 use Rattle.psos_model.specs.Flat.{Flat}
-use Rattle.psos_model.specs.Changes.{changed_all}
-use Rattle.psos_model.specs.Outcome.{Outcome}
+use Rattle.psos_model.specs.Flat.Changes.{changed_all}
+use Rattle.psos_model.specs.Answer.Outcomes.{Outcome}
 use Rattle.psos_model.specs.Answer.{outcome, answer}
-use Rattle.psos_model.specs.Boot.{boot}
+use Rattle.psos_model.specs.Flat.Boot.{boot}
 use Rattle.psos_model.specs.Replay.{System, boot_system, replay_step, answered_of}
 use Rattle.psos_model.specs.Sound.{IsSound}
-use Rattle.psos_model.specs.StandsFor.{StandsFor}
+use Rattle.psos_model.specs.Replay.StandsFor.{StandsFor}
 
 -- user u of a well-formed script, whose own part is x, asks this request next; the levels stand for a sound flat state, and two identifiers are left
 pub record Ready (s : Script) (y : System) (f : Flat) (u : ℕ) (x : User) (request : Request) : Type 0 where

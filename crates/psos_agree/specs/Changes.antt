@@ -7,10 +7,11 @@ use Rattle.psos_words.specs.declared.word.Word.{Word}
 use Rattle.psos_words.specs.Words.{zeros}
 use Rattle.psos_words.specs.Directory.{Slot, decode}
 use Rattle.psos_calls.specs.declared.level_call.LevelCall.TheVariants.{FourPut}
-use Rattle.psos_calls.specs.Level7.{Pages, slot_words, first_free}
-use Rattle.psos_calls.specs.Level8.{SegState, slot_of, is_not_over}
+use Rattle.psos_calls.specs.Levels.Level7.{Pages, slot_words, first_free}
+use Rattle.psos_calls.specs.Levels.Level8.{SegState, slot_of}
+use Rattle.psos_calls.specs.Language.Views.{is_not_over}
 use Rattle.psos_calls.specs.Levels.{Levels, act}
-use Rattle.psos_calls.specs.Plan.{uid}
+use Rattle.psos_calls.specs.Language.Capabilities.{uid}
 use Rattle.psos_model.specs.Flat.{Flat, Segment, Object, Directory}
 use Rattle.psos_model.specs.Replay.{System}
 

@@ -5,14 +5,14 @@ use Rattle.psos_table.specs.Table.{at, size, edit}
 use Rattle.psos_text.specs.declared.name.Name.{Name}
 use Rattle.psos_text.specs.Name.{IsName}
 use Rattle.psos_words.specs.Directory.{Entry, Slot, Found, find, slot_for, entry_words, gone_words}
-use Rattle.psos_calls.specs.Script.{Script}
-use Rattle.psos_calls.specs.Level7.{first_free}
+use Rattle.psos_calls.specs.Language.Script.{Script}
+use Rattle.psos_calls.specs.Levels.Level7.{first_free}
 use Rattle.psos_model.specs.Flat.{Flat, Segment, Object, Directory}
-use Rattle.psos_model.specs.Changes.{changed, with_entry, without_entry}
+use Rattle.psos_model.specs.Flat.Changes.{changed, with_entry, without_entry}
 use Rattle.psos_model.specs.declared.change.Change.TheVariants.{MakeSegment, DropSegment, MakeObject, DropObject, MakeDirectory, DropDirectory}
 use Rattle.psos_model.specs.Replay.{System}
 use Rattle.psos_model.specs.Sound.{IsSound}
-use Rattle.psos_model.specs.StandsFor.{StandsFor}
+use Rattle.psos_model.specs.Replay.StandsFor.{StandsFor}
 use Rattle.psos_agree.specs.Changes.{made_segment, gone_segment, made_object, gone_object, made_directory, gone_directory, IsAlone, HasRead, four_put}
 
 -- where one more user object fits, a slot is free

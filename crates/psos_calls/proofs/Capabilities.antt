@@ -3,7 +3,7 @@ use Rattle.std.proofs.Common.{◌≡◌, ℕ, zero, suc, ◌+◌, ◌<◌, ◌�
 use Rattle.psos_caps.specs.Capability.{Capability}
 use Rattle.psos_words.specs.declared.word.Word.{Word}
 use Rattle.psos_words.specs.declared.word.Word.TheVariants.{Data, Cap}
-use Rattle.psos_calls.specs.Path.{capabilities}
+use Rattle.psos_calls.specs.Language.Capabilities.{capabilities}
 
 pub capabilities-append : (words : List Word) (cap : Capability) → capabilities (words ++ Cap cap ∷ []) ≡ capabilities words ++ cap ∷ []
 capabilities-append [] cap = refl

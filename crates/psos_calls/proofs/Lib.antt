@@ -1,4 +1,4 @@
 pub mod Capabilities
-pub mod Phases
-pub mod Users
-pub mod Refusals
+pub mod PhasePlaces
+pub mod BodyEnds
+pub mod RefusedCalls

@@ -1,4 +1,13 @@
 -- The levels as machines: what a call changes and answers. States docs/levels.md, "Calls".
+pub mod Level7
+pub mod Level8
+pub mod Level9
+pub mod Level10
+pub mod Level11
+pub mod Level12
+pub mod Level13
+pub mod Refusals
+pub mod Lists
 use Rattle.std.specs.Prelude.{ℕ, ◌+◌, ◌-◌, ◌^◌, ◌<◌}
 use Rattle.psos_caps.specs.Capability.{full}
 use Rattle.psos_calls.specs.declared.level.Level.{Level}
@@ -7,13 +16,13 @@ use Rattle.psos_calls.specs.declared.level_call.LevelCall.{LevelCall}
 use Rattle.psos_calls.specs.declared.level_call.LevelCall.TheVariants.{Hold13, Admit, CodeMake, Enter, CodeGone, Post, Draw, Hold11, Room, Enrol, KindOf, Forget, DirAt, DirMake, DirGone, RepOf, TypeAt, TypeMake, ObjMake, Impl, ObjGone, TypeGone, Locate, SlotOf, SegMake, SegGone, WinRoom, WinMake, Length, PageTake, PageDrop, WordGet, WordPut, PageGet, FourPut, Fresh}
 use Rattle.psos_calls.specs.declared.level_answer.LevelAnswer.{LevelAnswer}
 use Rattle.psos_calls.specs.declared.level_answer.LevelAnswer.TheVariants.{New}
-use Rattle.psos_calls.specs.Level7.{Pages, act7, Can7}
-use Rattle.psos_calls.specs.Level8.{SegState, act8, Can8}
-use Rattle.psos_calls.specs.Level9.{TypeState, act9, Can9}
-use Rattle.psos_calls.specs.Level10.{DirState, act10, Can10}
-use Rattle.psos_calls.specs.Level11.{LifeState, act11, Can11}
-use Rattle.psos_calls.specs.Level12.{BoxState, act12, Can12}
-use Rattle.psos_calls.specs.Level13.{CodeState, act13, Can13}
+use Rattle.psos_calls.specs.Levels.Level7.{Pages, act7, Can7}
+use Rattle.psos_calls.specs.Levels.Level8.{SegState, act8, Can8}
+use Rattle.psos_calls.specs.Levels.Level9.{TypeState, act9, Can9}
+use Rattle.psos_calls.specs.Levels.Level10.{DirState, act10, Can10}
+use Rattle.psos_calls.specs.Levels.Level11.{LifeState, act11, Can11}
+use Rattle.psos_calls.specs.Levels.Level12.{BoxState, act12, Can12}
+use Rattle.psos_calls.specs.Levels.Level13.{CodeState, act13, Can13}
 
 -- the states of all levels; level 0's is the next identifier
 pub record Levels : Type 0 where

@@ -1,27 +1,8 @@
-pub mod Rights
-pub mod Path
-pub mod Request
-pub mod Script
-pub mod User
-pub mod Tests
-pub mod Names
-pub mod Level7
-pub mod Level8
-pub mod Level9
-pub mod Level10
-pub mod Level11
-pub mod Level12
-pub mod Level13
+-- Language: requests, scripts, a user's own part, and the tests and views that answers and plans share. Nothing in it knows a level or a plan.
+pub mod Language
+-- Levels: what a call of each level changes and answers, and its condition.
 pub mod Levels
-pub mod Refusals
+-- Locks: the lock of a call, and which may be taken.
 pub mod Locks
-pub mod Held
+-- Plan: the calls that a request makes.
 pub mod Plan
-pub mod Trace
-pub mod Lists
-pub mod PlanParts
-pub mod PlanSeg
-pub mod PlanDir
-pub mod PlanLife
-pub mod PlanProc
-pub mod PlanOf

@@ -1,4 +1,5 @@
 -- The lock of a call. States docs/levels.md, "Locks".
+pub mod Held
 use Rattle.std.specs.Prelude.{ℕ, ◌-◌, ◌/◌, ◌%◌, ◌==◌, ◌&&◌, nat_lt, nat_le, if◌then◌else◌}
 use Rattle.psos_calls.specs.declared.level.Level.{Level}
 use Rattle.psos_calls.specs.declared.lock_id.LockId.{LockId}

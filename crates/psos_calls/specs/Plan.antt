@@ -1,9 +1,14 @@
 -- Plans: trees of level calls, each of which closes its request in the end. States docs/requests.md, "Plans".
+pub mod Parts
+pub mod Segments
+pub mod Directories
+pub mod Objects
+pub mod Processes
+pub mod Requests
+pub mod Trace
 use Rattle.std.specs.Prelude.{ℕ, List, [], ◌∷◌}
 use Rattle.psos_caps.specs.Capability.{Capability}
-use Rattle.psos_caps.specs.declared.cap.Uid.{Uid}
 use Rattle.psos_words.specs.declared.word.Word.{Word}
-use Rattle.psos_words.specs.declared.word.Word.TheVariants as words
 use Rattle.psos_calls.specs.declared.kind.Kind.{Kind}
 use Rattle.psos_calls.specs.declared.reply.Reply.{Reply}
 use Rattle.psos_calls.specs.declared.reply.Reply.TheVariants as replies
@@ -15,6 +20,7 @@ use Rattle.psos_calls.specs.declared.level.Level.{Level}
 use Rattle.psos_calls.specs.declared.level_call.LevelCall.{LevelCall}
 use Rattle.psos_calls.specs.declared.level_answer.LevelAnswer.{LevelAnswer}
 use Rattle.psos_calls.specs.declared.level_answer.LevelAnswer.TheVariants.{Entered, Got, Is, Guard, Rep, At, Slot, Len, Whole, New, No}
+use Rattle.psos_calls.specs.Language.Replies.{word_reply}
 use Rattle.psos_calls.specs.Levels.{Levels, level_of, act, Can}
 
 -- a plan closes, or makes a call and goes on by its answer
@@ -26,18 +32,9 @@ pub data Plan : Type 0 where
 abbrev pub refuse : Refusal → Plan
 refuse r = Close (replies.No r) Nothing
 
--- the reply that tells a word
-abbrev pub word_reply : Word → Reply
-word_reply (words.Data n) = replies.Data n
-word_reply (words.Cap cap) = replies.Cap cap
-
 -- a word goes into a register, and is the reply
 abbrev pub give : ℕ → Word → Plan
 give rd w = Close (word_reply w) (Put rd w)
-
--- the identifier of a number
-abbrev pub uid : ℕ → Uid
-uid n = record { 0 = n }
 
 -- ---- what an answer must be for the plan to go on. A refusal closes it, and no other answer comes
 

@@ -2,7 +2,7 @@
 ghost use Rattle.std.specs.Prelude.{◌≡◌, ◌+◌, ◌<◌, ◌≤◌, ◌^◌, false, List, [], ◌∷◌, length, drop, slice_set, IfSome, IfNone};
 ghost use Rattle.psos_words.specs.declared.word.Word.{Word as WordValue};
 ghost use Rattle.psos_calls.specs.declared.frame.Frame.{Frame as FrameValue};
-ghost use Rattle.psos_calls.specs.User.{User, is_over, outward};
+ghost use Rattle.psos_calls.specs.Language.User.{User, is_over, outward};
 
 use crate::{Frame, Script};
 use arrayvec::ArrayVec;

@@ -1,6 +1,6 @@
 //! How a plan closes (docs/requests.md, "Plans").
 ghost use Rattle.std.specs.Prelude.{◌≡◌};
-ghost use Rattle.psos_calls.specs.Plan.{word_reply as reply_of};
+ghost use Rattle.psos_calls.specs.Language.Replies.{word_reply as reply_of};
 
 use crate::{Effect, Next, Refusal, Reply};
 use psos_words::Word;

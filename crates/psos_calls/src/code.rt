@@ -15,7 +15,7 @@ pub struct Code {
 
 impl Model for Code {
     ghost use Rattle.psos_text.specs.Name.{name_text};
-    ghost use Rattle.psos_calls.specs.Script.{CodeBlock};
+    ghost use Rattle.psos_calls.specs.Language.Script.{CodeBlock};
 
     ghost Value = { CodeBlock };
 

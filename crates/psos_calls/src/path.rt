@@ -16,7 +16,7 @@ pub struct Path {
 impl Model for Path {
     ghost use Rattle.std.specs.Prelude.{List, ◌≡◌, length};
     ghost use Rattle.psos_caps.specs.Capability.{Capability};
-    ghost use Rattle.psos_calls.specs.Path.{capabilities};
+    ghost use Rattle.psos_calls.specs.Language.Capabilities.{capabilities};
 
     ghost Value = { List Capability };
 

@@ -2,7 +2,7 @@
 ghost use Rattle.std.specs.Prelude.{◌≡◌, ◌+◌, ◌<◌, ◌≤◌, ◌^◌, [], length, slice_get, slice_set, Some};
 ghost use Rattle.psos_words.specs.Words.{word_at};
 ghost use Rattle.psos_calls.specs.declared.effect.Effect.TheVariants.{Enter};
-ghost use Rattle.psos_calls.specs.User.{after, counted, settled, ended, with_reg, entered_regs, here, next_request, place_of, label_and_line, CanCount, CanMake, CanSettle};
+ghost use Rattle.psos_calls.specs.Language.User.{after, counted, settled, ended, with_reg, entered_regs, here, next_request, place_of, label_and_line, CanCount, CanMake, CanSettle};
 
 use crate::bodies::Bodies;
 use crate::{Effect, Frame, Path, Request, Script};
@@ -27,7 +27,7 @@ pub struct Private {
 }
 
 impl Model for Private {
-    ghost use Rattle.psos_calls.specs.User.{User};
+    ghost use Rattle.psos_calls.specs.Language.User.{User};
 
     ghost Value = { User };
 

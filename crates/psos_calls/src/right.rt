@@ -1,6 +1,6 @@
 // Rights by their names.
 ghost use Rattle.std.specs.Prelude.{◌≡◌, ◌<◌};
-ghost use Rattle.psos_calls.specs.Rights.{bit_of};
+ghost use Rattle.psos_calls.specs.Language.Rights.{bit_of};
 
 /// The rights that requests need. Which bit stands for one goes by the kind of the object, so some share a bit.
 #[derive(Clone, Copy)]

@@ -1,6 +1,6 @@
 // A script.
 ghost use Rattle.std.specs.Prelude.{◌≡◌, slice_get};
-ghost use Rattle.psos_calls.specs.Script.{body_of, user_script, requests_of};
+ghost use Rattle.psos_calls.specs.Language.Script.{body_of, user_script, requests_of};
 
 use crate::{Code, Request, UserText};
 use std::marker::Model;
@@ -13,7 +13,7 @@ pub struct Script {
 }
 
 impl Model for Script {
-    ghost use Rattle.psos_calls.specs.Script.{Script};
+    ghost use Rattle.psos_calls.specs.Language.Script.{Script};
 
     ghost Value = { Script };
 

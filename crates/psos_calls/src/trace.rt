@@ -1,6 +1,6 @@
 // The calls of an open request.
 ghost use Rattle.std.specs.Prelude.{◌≡◌, ◌<◌, [], ◌∷◌, ◌++◌, length, IfOk};
-ghost use Rattle.psos_calls.specs.Trace.{calls_in};
+ghost use Rattle.psos_calls.specs.Plan.Trace.{calls_in};
 
 use crate::{Level, LevelAnswer, LevelCall, Step, Steps};
 use std::alloc::{AllocError, Global};

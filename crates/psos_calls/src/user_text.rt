@@ -1,6 +1,6 @@
 // What one user asks.
 ghost use Rattle.std.specs.Prelude.{◌≡◌, map, slice_get};
-ghost use Rattle.psos_calls.specs.Script.{requests_of};
+ghost use Rattle.psos_calls.specs.Language.Script.{requests_of};
 ghost use Rattle.psos_text.specs.Name.{name_text};
 
 use crate::Request;
@@ -17,7 +17,7 @@ pub struct UserText {
 impl Model for UserText {
     ghost use Rattle.std.specs.Prelude.{map};
     ghost use Rattle.psos_text.specs.Name.{name_text};
-    ghost use Rattle.psos_calls.specs.Script.{UserScript};
+    ghost use Rattle.psos_calls.specs.Language.Script.{UserScript};
 
     ghost Value = { UserScript };
 

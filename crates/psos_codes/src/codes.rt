@@ -1,7 +1,7 @@
 // Procedure records.
 ghost use Rattle.std.specs.Prelude.{◌≡◌, IfOk, IfErr, OnOk, OnErr, IsTrue, alloc_error};
 ghost use Rattle.std.specs.FinMap.{empty};
-ghost use Rattle.psos_calls.specs.Level13.{admitted, entered, act13, Can13};
+ghost use Rattle.psos_calls.specs.Levels.Level13.{admitted, entered, act13, Can13};
 ghost use Rattle.psos_codes.specs.Rows.{adds_row};
 
 use psos_calls::{CodeRow, Kind, LevelAnswer, LevelCall, LevelFault, Refusal, Right};
@@ -21,7 +21,7 @@ pub struct Codes {
 impl Model for Codes {
     ghost use Rattle.std.specs.Coded.{coded_ℕ};
     ghost use Rattle.std.specs.FinMap as map;
-    ghost use Rattle.psos_calls.specs.Level13.{CodeState};
+    ghost use Rattle.psos_calls.specs.Levels.Level13.{CodeState};
     ghost use Rattle.psos_calls.specs.contracts.code_row.CodeRow as code_row;
 
     ghost Value = { CodeState };

@@ -1,5 +1,5 @@
 // What the plain program and the core say of a script.
-ghost use Rattle.psos_calls.specs.Script.{IsWellFormed};
+ghost use Rattle.psos_calls.specs.Language.Script.{IsWellFormed};
 
 use psos_calls::Script;
 use psos_core::{Core, Levels};

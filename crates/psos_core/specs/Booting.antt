@@ -1,9 +1,9 @@
 -- Slots while boot fills them. States docs/system.md, "Boot", and docs/levels.md, "Pages and slots".
 use Rattle.std.specs.Prelude.{◌≡◌, ℕ, ◌+◌, ◌-◌, ◌*◌, ◌<◌, ◌≤◌, List, [], ◌∷◌, ◌++◌, length, replicate, slice_set, slice_index_or, Some, None}
 use Rattle.psos_words.specs.Words.{zeros}
-use Rattle.psos_calls.specs.Level7.{Pages}
-use Rattle.psos_calls.specs.Script.{UserScript}
-use Rattle.psos_model.specs.BootLevels.{home_slot, home_words, user_slots}
+use Rattle.psos_calls.specs.Levels.Level7.{Pages}
+use Rattle.psos_calls.specs.Language.Script.{UserScript}
+use Rattle.psos_model.specs.Replay.BootLevels.{home_slot, home_words, user_slots}
 
 -- the first so many slots taken and not written, the others free
 abbrev pub first_taken : ℕ → Pages

@@ -1,10 +1,10 @@
 -- A run that goes by events. States docs/levels.md, "Locks".
 use Rattle.std.specs.Prelude.{◌≡◌, ◌⊎◌, ℕ, ◌<◌, List, length, IsTrue}
-use Rattle.psos_calls.specs.Script.{Script}
+use Rattle.psos_calls.specs.Language.Script.{Script}
 use Rattle.psos_calls.specs.Levels.{level_of}
-use Rattle.psos_model.specs.Core.{CoreState, core_of, core_step, core_after, is_enabled, AreEnabled}
-use Rattle.psos_model.specs.Core as events
-use Rattle.psos_model.specs.Serial.{IsCoreStart}
+use Rattle.psos_model.specs.Events.{CoreState, core_of, core_step, core_after, is_enabled, AreEnabled}
+use Rattle.psos_model.specs.Events as events
+use Rattle.psos_model.specs.Events.Serial.{IsCoreStart}
 use Rattle.psos_core.specs.declared.ongoing.Ongoing.{Ongoing}
 use Rattle.psos_core.specs.declared.run.Core.{Core}
 use Rattle.psos_core.specs.declared.event.Event.{Event}

@@ -13,7 +13,7 @@ use Rattle.psos_types.specs.Rows as types
 use Rattle.psos_dirs.specs.Rows as dirs
 use Rattle.psos_life.specs.Rows as life
 use Rattle.psos_codes.specs.Rows as codes
-use Rattle.psos_model.specs.Core.{Event, Take, Call, Close}
+use Rattle.psos_model.specs.Events.{Event, Take, Call, Close}
 use Rattle.psos_journal.specs.declared.stop_cause.StopCause.{StopCause}
 use Rattle.psos_journal.specs.declared.stop_cause.StopCause.TheVariants as stops
 use Rattle.psos_core.specs.Plans.{closes}

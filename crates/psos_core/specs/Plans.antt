@@ -9,17 +9,17 @@ use Rattle.psos_calls.specs.declared.next.Next.TheVariants as nexts
 use Rattle.psos_calls.specs.declared.request.Request.{Request}
 use Rattle.psos_calls.specs.declared.step.Step.{Step}
 use Rattle.psos_calls.specs.declared.entry.Entry.{Entry}
-use Rattle.psos_calls.specs.Script.{Script}
-use Rattle.psos_calls.specs.User.{User, next_request}
+use Rattle.psos_calls.specs.Language.Script.{Script}
+use Rattle.psos_calls.specs.Language.User.{User, next_request}
 use Rattle.psos_calls.specs.Levels as machines
 use Rattle.psos_calls.specs.Levels.{level_of}
-use Rattle.psos_calls.specs.Lists.{HasLists}
+use Rattle.psos_calls.specs.Levels.Lists.{HasLists}
 use Rattle.psos_calls.specs.Locks.{lock_of}
-use Rattle.psos_calls.specs.Held.{is_held, may_take}
-use Rattle.psos_calls.specs.PlanOf.{plan_of}
-use Rattle.psos_calls.specs.Trace.{followed, next_of, IsTraceOf}
+use Rattle.psos_calls.specs.Locks.Held.{is_held, may_take}
+use Rattle.psos_calls.specs.Plan.Requests.{plan_of}
+use Rattle.psos_calls.specs.Plan.Trace.{followed, next_of, IsTraceOf}
 use Rattle.psos_model.specs.Run.{current_phase}
-use Rattle.psos_model.specs.Core.{CoreState, trace_of}
+use Rattle.psos_model.specs.Events.{CoreState, trace_of}
 use Rattle.psos_core.specs.declared.levels.Levels.{Levels}
 use Rattle.psos_core.specs.declared.ongoing.Ongoing.{Ongoing}
 use Rattle.psos_core.specs.declared.upcoming.Upcoming.{Upcoming}

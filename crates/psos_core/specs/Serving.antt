@@ -6,17 +6,17 @@ use Rattle.psos_calls.specs.declared.effect.Effect.{Effect}
 use Rattle.psos_calls.specs.declared.level.Level.{Level}
 use Rattle.psos_calls.specs.declared.level_call.LevelCall.{LevelCall}
 use Rattle.psos_calls.specs.declared.entry.Entry.{Entry}
-use Rattle.psos_calls.specs.Script.{Script, IsWellFormed}
-use Rattle.psos_calls.specs.User.{User, next_request, CanCount}
+use Rattle.psos_calls.specs.Language.Script.{Script, IsWellFormed}
+use Rattle.psos_calls.specs.Language.User.{User, next_request, CanCount}
 use Rattle.psos_calls.specs.Levels.{Levels}
 use Rattle.psos_calls.specs.Plan.{Plan, PlanRun, Runs}
 use Rattle.psos_model.specs.Flat.{Flat}
 use Rattle.psos_model.specs.Run.{has_left, run_from, answers_from, run, IsLegalFrom, IsComplete}
 use Rattle.psos_model.specs.Replay.{System, replay_step, replay_from, replay, entries_from, order_of, answered_of, AreFaithful}
-use Rattle.psos_model.specs.Output.{calls_of}
+use Rattle.psos_model.specs.Text.Output.{calls_of}
 use Rattle.psos_model.specs.Sound.{IsSound}
-use Rattle.psos_model.specs.Boot.{boot}
-use Rattle.psos_model.specs.StandsFor.{StandsFor}
+use Rattle.psos_model.specs.Flat.Boot.{boot}
+use Rattle.psos_model.specs.Replay.StandsFor.{StandsFor}
 use Rattle.psos_laws.specs.Laws.{HoldsAlong}
 
 -- where a run starts: the levels with the users' own parts, and the flat state that they stand for

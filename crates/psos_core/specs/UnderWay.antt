@@ -2,12 +2,12 @@
 use Rattle.std.specs.Prelude.{◌≡◌, ℕ, zero, suc, ◌+◌, ◌<◌, ◌≤◌, ◌||◌, true, if◌then◌else◌, nat_lt, List, [], ◌∷◌, length, slice_get, Option, Some, None, max}
 use Rattle.psos_calls.specs.declared.request.Request.{Request}
 use Rattle.psos_calls.specs.declared.entry.Entry.{Entry}
-use Rattle.psos_calls.specs.Script.{Script, UserScript}
-use Rattle.psos_calls.specs.User.{User, next_request}
+use Rattle.psos_calls.specs.Language.Script.{Script, UserScript}
+use Rattle.psos_calls.specs.Language.User.{User, next_request}
 use Rattle.psos_model.specs.Flat.{Flat}
 use Rattle.psos_model.specs.Run.{phase_of, is_open}
 use Rattle.psos_model.specs.Replay.{System, replay_from, entries_from, order_of}
-use Rattle.psos_model.specs.SerialOrder.{IsSerialFrom}
+use Rattle.psos_model.specs.Run.SerialOrder.{IsSerialFrom}
 
 -- as many phases as the user with the most has
 abbrev pub phases_most : List UserScript → ℕ

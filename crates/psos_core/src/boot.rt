@@ -6,13 +6,13 @@ ghost use Rattle.psos_table.specs.Table.{at, put, size};
 ghost use Rattle.psos_caps.specs.Capability.{full};
 ghost use Rattle.psos_words.specs.Words.{zeros};
 ghost use Rattle.psos_words.specs.Directory.{entry_words};
-ghost use Rattle.psos_calls.specs.Script.{IsWellFormed};
-ghost use Rattle.psos_calls.specs.Level8.{IsNew};
+ghost use Rattle.psos_calls.specs.Language.Script.{IsWellFormed};
+ghost use Rattle.psos_calls.specs.Levels.Level8.{IsNew};
 ghost use Rattle.psos_calls.specs.declared.kind.Kind.TheVariants as kinds;
-ghost use Rattle.psos_model.specs.Boot.{boot_life as life_at_boot, boot_users, boot_user as user_at_boot, boot_regs as regs_at_boot, root, home_of, scratch_of, scratch_name, guard_1};
-ghost use Rattle.psos_model.specs.BootLevels.{home_slot, home_words, boot_reps as reps_at_boot, boot_scratch as scratch_at_boot, boot_objects, boot_guards};
+ghost use Rattle.psos_model.specs.Flat.Boot.{boot_life as life_at_boot, boot_users, boot_user as user_at_boot, boot_regs as regs_at_boot, root, home_of, scratch_of, scratch_name, guard_1};
+ghost use Rattle.psos_model.specs.Replay.BootLevels.{home_slot, home_words, boot_reps as reps_at_boot, boot_scratch as scratch_at_boot, boot_objects, boot_guards};
 ghost use Rattle.psos_model.specs.Replay.{boot_system};
-ghost use Rattle.psos_model.specs.Within.{IsShort};
+ghost use Rattle.psos_model.specs.Flat.Within.{IsShort};
 ghost use Rattle.psos_core.specs.System.{system_of};
 ghost use Rattle.psos_core.specs.Booting.{first_taken, with_homes, AreBlank, boot_slots};
 

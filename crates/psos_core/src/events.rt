@@ -1,7 +1,7 @@
 // A run by events.
 ghost use Rattle.std.specs.Prelude.{◌≡◌, ◌<◌, ◌++◌, ◌∷◌, ◌↔◌, ◌⊎◌, ℕ, List, [], length, false, None, Some, IfOk, OnOk, IfErr, OnErr, IsTrue, option_map};
 ghost use Rattle.psos_model.specs.Run.{has_left};
-ghost use Rattle.psos_model.specs.Core.{is_enabled, event_of, core_step};
+ghost use Rattle.psos_model.specs.Events.{is_enabled, event_of, core_step};
 ghost use Rattle.psos_core.specs.Faults.{MayStop, CanStopAt};
 ghost use Rattle.psos_core.specs.Serving.{Start};
 ghost use Rattle.psos_core.specs.Plans.{next_for, may_go};

@@ -1,9 +1,9 @@
 // What users have under way.
 ghost use Rattle.std.specs.Prelude.{◌≡◌, ◌≤◌, ◌<◌, [], length, replicate, slice_index_or, IfOk, Option};
 ghost use Rattle.psos_calls.specs.declared.next.Next.{Next};
-ghost use Rattle.psos_calls.specs.Script.{IsWellFormed};
+ghost use Rattle.psos_calls.specs.Language.Script.{IsWellFormed};
 ghost use Rattle.psos_calls.specs.Levels.{Levels};
-ghost use Rattle.psos_calls.specs.Lists.{HasLists};
+ghost use Rattle.psos_calls.specs.Levels.Lists.{HasLists};
 ghost use Rattle.psos_model.specs.Run.{current_phase};
 ghost use Rattle.psos_core.specs.Plans.{call_in, known_of, may_go, AreFirst, IsLeveled, Tells};
 

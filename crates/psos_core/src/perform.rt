@@ -1,13 +1,13 @@
 // The plan of a request, run call by call.
 ghost use Rattle.std.specs.Prelude.{◌≡◌, ◌≤◌, ◌<◌, [], ◌∷◌, ◌++◌, length, slice_get, Some, IfOk, OnOk, IfErr, OnErr};
 ghost use Rattle.psos_calls.specs.declared.level_call.LevelCall.{LevelCall};
-ghost use Rattle.psos_calls.specs.Request.{InRange};
-ghost use Rattle.psos_calls.specs.User.{User};
+ghost use Rattle.psos_calls.specs.Language.Request.{InRange};
+ghost use Rattle.psos_calls.specs.Language.User.{User};
 ghost use Rattle.psos_calls.specs.Levels.{level_of, act, Can};
 ghost use Rattle.psos_calls.specs.Plan.{run_plan};
-ghost use Rattle.psos_calls.specs.Lists.{HasLists};
-ghost use Rattle.psos_calls.specs.PlanOf.{plan_of};
-ghost use Rattle.psos_calls.specs.Trace.{calls_in};
+ghost use Rattle.psos_calls.specs.Levels.Lists.{HasLists};
+ghost use Rattle.psos_calls.specs.Plan.Requests.{plan_of};
+ghost use Rattle.psos_calls.specs.Plan.Trace.{calls_in};
 ghost use Rattle.psos_core.specs.System.{levels_of};
 ghost use Rattle.psos_core.specs.Faults.{MayStop, CanFault, CanStop};
 ghost use Rattle.psos_core.specs.Serving.{CanRun, IsPlanRun};

@@ -1,10 +1,10 @@
 // What the plan of a request does next, whatever its kind.
 ghost use Rattle.std.specs.Prelude.{◌≡◌, IfOk, OnErr};
-ghost use Rattle.psos_calls.specs.Request.{InRange};
+ghost use Rattle.psos_calls.specs.Language.Request.{InRange};
 ghost use Rattle.psos_calls.specs.Levels.{Levels};
-ghost use Rattle.psos_calls.specs.Lists.{HasLists};
-ghost use Rattle.psos_calls.specs.PlanOf.{plan_of};
-ghost use Rattle.psos_calls.specs.Trace.{followed, next_of, IsTraceOf};
+ghost use Rattle.psos_calls.specs.Levels.Lists.{HasLists};
+ghost use Rattle.psos_calls.specs.Plan.Requests.{plan_of};
+ghost use Rattle.psos_calls.specs.Plan.Trace.{followed, next_of, IsTraceOf};
 ghost use Rattle.psos_plan_dir.specs.Listing.{IsListing};
 
 use psos_calls::{Next, Private, Request, Trace};

@@ -1,6 +1,6 @@
 // What a user's next request does next.
 ghost use Rattle.std.specs.Prelude.{◌≡◌, [], IsTrue};
-ghost use Rattle.psos_calls.specs.Script.{IsWellFormed};
+ghost use Rattle.psos_calls.specs.Language.Script.{IsWellFormed};
 ghost use Rattle.psos_core.specs.Plans.{next_after, is_known, CanPlan, Tells};
 
 use crate::plan::next;

@@ -3,8 +3,8 @@ ghost use Rattle.std.specs.Prelude.{◌≡◌, ◌≤◌, [], None, Some, IfOk, 
 ghost use Rattle.psos_io.specs.Causes.{Rose};
 ghost use Rattle.psos_journal.specs.declared.stop_cause.StopCause.TheVariants as stops;
 ghost use Rattle.psos_model.specs.Flat.{Flat};
-ghost use Rattle.psos_model.specs.Serial.{IsCoreStart};
-ghost use Rattle.psos_model.specs.SerialOrder.{IsSerialFrom};
+ghost use Rattle.psos_model.specs.Events.Serial.{IsCoreStart};
+ghost use Rattle.psos_model.specs.Run.SerialOrder.{IsSerialFrom};
 ghost use Rattle.psos_core.specs.System.{system_of};
 ghost use Rattle.psos_core.specs.Faults.{MayStop};
 ghost use Rattle.psos_core.specs.Plans.{state_in, AreKnown, IsKept};

@@ -1,9 +1,9 @@
 // All requests of a script, in the serial order.
 ghost use Rattle.std.specs.Prelude.{◌≡◌, ◌≤◌, ◌<◌, ◌+◌, [], length, map, sum_by, OnOk};
-ghost use Rattle.psos_calls.specs.Script.{IsWellFormed, user_script};
+ghost use Rattle.psos_calls.specs.Language.Script.{IsWellFormed, user_script};
 ghost use Rattle.psos_model.specs.Run.{is_open};
-ghost use Rattle.psos_model.specs.Serial.{IsCoreStart};
-ghost use Rattle.psos_model.specs.SerialOrder.{IsSerialFrom};
+ghost use Rattle.psos_model.specs.Events.Serial.{IsCoreStart};
+ghost use Rattle.psos_model.specs.Run.SerialOrder.{IsSerialFrom};
 ghost use Rattle.psos_core.specs.System.{system_of};
 ghost use Rattle.psos_core.specs.Faults.{MayStop};
 ghost use Rattle.psos_core.specs.Serving.{Start, IsFrontFrom, IsRunFrom};

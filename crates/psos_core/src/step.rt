@@ -2,7 +2,7 @@
 ghost use Rattle.std.specs.Prelude.{◌≡◌, length, Some, IfOk, OnOk, IfErr, OnErr, option_map};
 ghost use Rattle.psos_calls.specs.declared.reply.Reply.{Reply};
 ghost use Rattle.psos_calls.specs.declared.effect.Effect.{Effect};
-ghost use Rattle.psos_model.specs.Core.{event_of, core_step};
+ghost use Rattle.psos_model.specs.Events.{event_of, core_step};
 ghost use Rattle.psos_core.specs.Faults.{MayStop, CanStopAt};
 ghost use Rattle.psos_core.specs.Plans.{state_in, next_for};
 ghost use Rattle.psos_core.specs.Events.{MayStep, HasStepped, HasStopped, told};

@@ -1,7 +1,7 @@
 // A run in drawn turns.
 ghost use Rattle.std.specs.Prelude.{◌≡◌, [], None, Some, OnOk, IfErr};
 ghost use Rattle.psos_model.specs.Flat.{Flat};
-ghost use Rattle.psos_model.specs.Turns.{enabled_in, IsTurnsOrderFrom};
+ghost use Rattle.psos_model.specs.Events.Turns.{enabled_in, IsTurnsOrderFrom};
 ghost use Rattle.psos_core.specs.System.{system_of};
 ghost use Rattle.psos_core.specs.Faults.{MayStop};
 ghost use Rattle.psos_core.specs.Serving.{IsFrontFrom, IsRunFrom};

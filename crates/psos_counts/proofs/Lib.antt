@@ -1,2 +1,2 @@
-pub mod ByClass
-pub mod KeptRows
+pub mod ClassCounts
+pub mod RowCounts

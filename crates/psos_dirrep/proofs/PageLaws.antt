@@ -14,11 +14,11 @@ use Rattle.psos_words.specs.Directory.{Slot, Found, mark_of, slots_of, are_never
 use Rattle.psos_dirrep.specs.Changes.{IsWhole}
 use Rattle.psos_dirrep.specs.Pages.{words_of, slots_in, AreSlots, ArePages, or_else, moved, find_on, slot_on, entry_slot}
 use Rattle.psos_dirrep.specs.Scan.{scan_free}
-use Rattle.psos_dirrep.proofs.Changed.{FreeAt, never, gone, used, free-at}
+use Rattle.psos_dirrep.proofs.SlotChanges.{FreeAt, never, gone, used, free-at}
 use Rattle.psos_dirrep.proofs.Directories.{decoded, decode-whole}
-use Rattle.psos_dirrep.proofs.Finds.{never-find, scan-free}
+use Rattle.psos_dirrep.proofs.SlotSearch.{never-find, scan-free}
 use Rattle.psos_dirrep.proofs.PageSlots.{halves, zeros-never, never-zeros, never-append, order-front, order-back, find-append, free-append, find-moved, free-moved}
-use Rattle.psos_dirrep.proofs.Rules.{find-take}
+use Rattle.psos_dirrep.proofs.EntryChanges.{find-take}
 use Rattle.psos_dirrep.proofs.Slots.{by_slot, slots-split}
 
 -- ---- after a slot that was never used

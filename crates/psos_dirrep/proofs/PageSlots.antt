@@ -9,7 +9,7 @@ use Rattle.psos_words.specs.declared.word.Word.TheVariants.{Data}
 use Rattle.psos_words.specs.Words.{zeros}
 use Rattle.psos_words.specs.Directory.{Slot, Never, Gone, Used, slots_of, same_name, are_never, are_in_order, find_from, free_from}
 use Rattle.psos_dirrep.specs.Pages.{or_else, moved}
-use Rattle.psos_dirrep.proofs.Finds.{order-later}
+use Rattle.psos_dirrep.proofs.SlotSearch.{order-later}
 use Rattle.psos_dirrep.proofs.Slots.{by_slot, slots-split, slots-cons}
 
 -- ---- the slots of two lists of words

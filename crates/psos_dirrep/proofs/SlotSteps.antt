@@ -15,7 +15,7 @@ use Rattle.psos_dirrep.specs.Lists.{order_from, used_halves, is_named, FromSlot}
 use Rattle.psos_dirrep.specs.Pages.{words_of, slots_in, ArePages}
 use Rattle.psos_dirrep.specs.Scan.{is_never}
 use Rattle.psos_dirrep.proofs.PageLaws.{words-long, slots-are}
-use Rattle.psos_dirrep.proofs.Scans.{four}
+use Rattle.psos_dirrep.proofs.PageSearch.{four}
 use Rattle.psos_dirrep.proofs.Slots.{by_slot, slots-split}
 
 -- ---- words of pages

@@ -11,7 +11,7 @@ use Rattle.psos_dirrep.specs.declared.found.Found.{Found}
 use Rattle.psos_dirrep.specs.Entries.{as_found}
 use Rattle.psos_dirrep.specs.EntryLists.{entry_list, IsEntryList}
 use Rattle.psos_dirrep.specs.Pages.{words_of, AreSlots, or_else, moved, find_on, slot_on, entry_slot, behind}
-use Rattle.psos_dirrep.proofs.Changed.{free-at}
+use Rattle.psos_dirrep.proofs.SlotChanges.{free-at}
 use Rattle.psos_dirrep.proofs.DecodeTests.{Filled, filled-up}
 use Rattle.psos_dirrep.proofs.Directories.{some_if}
 use Rattle.psos_dirrep.proofs.PageLaws.{pages-slots, pages-names, pages-fronts, pages-free, free-taken}

@@ -1,7 +1,7 @@
 // Directories.
 ghost use Rattle.std.specs.Prelude.{◌≡◌, IfOk, IfErr, OnOk, OnErr, IsTrue, alloc_error};
 ghost use Rattle.std.specs.FinMap.{empty};
-ghost use Rattle.psos_calls.specs.Level10.{dir_at, act10, Can10};
+ghost use Rattle.psos_calls.specs.Levels.Level10.{dir_at, act10, Can10};
 ghost use Rattle.psos_dirs.specs.Rows.{adds_row};
 
 use psos_calls::{Kind, LevelAnswer, LevelCall, LevelFault, Refusal, Right};
@@ -20,7 +20,7 @@ pub struct Dirs {
 impl Model for Dirs {
     ghost use Rattle.std.specs.Coded.{coded_ℕ};
     ghost use Rattle.std.specs.FinMap as map;
-    ghost use Rattle.psos_calls.specs.Level10.{DirState};
+    ghost use Rattle.psos_calls.specs.Levels.Level10.{DirState};
     ghost use Rattle.psos_caps.specs.contracts.rights.Rights as rights;
 
     ghost Value = { DirState };

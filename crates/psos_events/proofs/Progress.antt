@@ -10,31 +10,31 @@ use Rattle.psos_calls.specs.declared.effect.Effect.{Effect}
 use Rattle.psos_calls.specs.declared.step.Step.{Step}
 use Rattle.psos_calls.specs.declared.level_answer.LevelAnswer.{LevelAnswer}
 use Rattle.psos_calls.specs.declared.level_call.LevelCall.{LevelCall}
-use Rattle.psos_calls.specs.Script.{Script, requests_of, user_script, body_of}
-use Rattle.psos_calls.specs.Tests.{if_there}
-use Rattle.psos_calls.specs.User.{User, next_in, next_request, after}
-use Rattle.psos_calls.specs.Held.{rank, same_lock, is_held, is_free, are_earlier}
+use Rattle.psos_calls.specs.Language.Script.{Script, requests_of, user_script, body_of}
+use Rattle.psos_calls.specs.Language.Tests.{if_there}
+use Rattle.psos_calls.specs.Language.User.{User, next_in, next_request, after}
+use Rattle.psos_calls.specs.Locks.Held.{rank, same_lock, is_held, is_free, are_earlier}
 use Rattle.psos_calls.specs.Locks.{lock_of}
 use Rattle.psos_calls.specs.Plan.{Plan, Close, Ask}
-use Rattle.psos_calls.specs.PlanOf.{plan_of}
-use Rattle.psos_calls.specs.Trace.{followed}
+use Rattle.psos_calls.specs.Plan.Requests.{plan_of}
+use Rattle.psos_calls.specs.Plan.Trace.{followed}
 use Rattle.psos_model.specs.Flat.{Flat}
-use Rattle.psos_model.specs.SoundUser.{HasLine}
+use Rattle.psos_model.specs.Sound.Users.{HasLine}
 use Rattle.psos_model.specs.Run.{is_left, has_left}
 use Rattle.psos_model.specs.Replay.{System}
-use Rattle.psos_model.specs.Core.{CoreState, Event, Take, Call, locks_of, trace_of, core_of, called, closed, happened, may_happen, event_of, is_enabled, core_step, core_after, AreEnabled}
-use Rattle.psos_model.specs.Core as core
-use Rattle.psos_model.specs.Serial.{IsCoreStart, NeverStuck}
-use Rattle.psos_laws.proofs.OrdersRun.{pick}
+use Rattle.psos_model.specs.Events.{CoreState, Event, Take, Call, locks_of, trace_of, core_of, called, closed, happened, may_happen, event_of, is_enabled, core_step, core_after, AreEnabled}
+use Rattle.psos_model.specs.Events as core
+use Rattle.psos_model.specs.Events.Serial.{IsCoreStart, NeverStuck}
+use Rattle.psos_laws.proofs.AnswerProgress.{pick}
 use Rattle.psos_laws.proofs.StepsShared.{set_apart}
-use Rattle.psos_laws.proofs.UsersLeft.{left_within, has_user}
-use Rattle.psos_events.proofs.Under.{same_lock_is}
-use Rattle.psos_events.proofs.Traces.{step_of, followed_none, followed_more}
-use Rattle.psos_events.proofs.Holders.{IsSet, by_set}
-use Rattle.psos_events.proofs.Moves.{IsAsking, by_event}
-use Rattle.psos_events.proofs.Kept.{HasDone, set_at, below, same_trace, nothing_held, nothing_open, nothing_at, begins, event_keeps, stands_now}
-use Rattle.psos_events.proofs.Falling.{AreInOrder, IsFalling, plan_falls, falls_later, falls_taken, falls_called}
-use Rattle.psos_events.proofs.Phases.{left_stays}
+use Rattle.psos_laws.proofs.RequestsLeft.{left_within, has_user}
+use Rattle.psos_events.proofs.LockScope.{same_lock_is}
+use Rattle.psos_events.proofs.OpenTraces.{step_of, followed_none, followed_more}
+use Rattle.psos_events.proofs.LockHolders.{IsSet, by_set}
+use Rattle.psos_events.proofs.EventMoves.{IsAsking, by_event}
+use Rattle.psos_events.proofs.ReplayInvariant.{HasDone, set_at, below, same_trace, nothing_held, nothing_open, nothing_at, begins, event_keeps, stands_now}
+use Rattle.psos_events.proofs.LockOrder.{AreInOrder, IsFalling, plan_falls, falls_later, falls_taken, falls_called}
+use Rattle.psos_events.proofs.RequestsLeft.{left_stays}
 
 -- ---- what no event breaks
 

@@ -5,19 +5,19 @@ use Rattle.std.proofs.lemmas.List.Sums.{sum_by-cons}
 use Rattle.psos_calls.specs.declared.entry.Entry.{Entry}
 use Rattle.psos_calls.specs.declared.request.Request.{Request}
 use Rattle.psos_calls.specs.declared.reply.Reply.TheVariants.{Fine}
-use Rattle.psos_calls.specs.Script.{Script, IsWellFormed}
-use Rattle.psos_calls.specs.User.{User, next_request}
-use Rattle.psos_calls.specs.Tests.{if_there}
+use Rattle.psos_calls.specs.Language.Script.{Script, IsWellFormed}
+use Rattle.psos_calls.specs.Language.User.{User, next_request}
+use Rattle.psos_calls.specs.Language.Tests.{if_there}
 use Rattle.psos_model.specs.Flat.{Flat}
 use Rattle.psos_model.specs.Answer.{Answered, answer}
 use Rattle.psos_model.specs.Replay.{System, replay_step, replay_to, entries_from, answered_of}
 use Rattle.psos_model.specs.Sound.{IsSound}
-use Rattle.psos_model.specs.StandsFor.{StandsFor}
-use Rattle.psos_model.proofs.AboveAnswers.{at_most_two}
+use Rattle.psos_model.specs.Replay.StandsFor.{StandsFor}
+use Rattle.psos_model.proofs.AnswerBounds.{at_most_two}
 use Rattle.psos_laws.proofs.SharedSound.{answers_kept}
-use Rattle.psos_laws.proofs.OrdersEnd.{orders_end}
-use Rattle.psos_agree.proofs.Stepping.{step_agrees}
-use Rattle.psos_agree.proofs.Lengths.{plans_are_short}
+use Rattle.psos_laws.proofs.OrderLengths.{orders_end}
+use Rattle.psos_agree.proofs.RequestsAgree.{step_agrees}
+use Rattle.psos_agree.proofs.PlanLengths.{plans_are_short}
 use Rattle.psos_events.specs.Replays.{RunStands, RunsStand}
 
 -- ---- one request

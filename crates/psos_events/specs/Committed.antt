@@ -1,13 +1,13 @@
 -- The committed state of a lock is its value when it was last free. States docs/levels.md, "Locks".
 use Rattle.std.specs.Prelude.{◌≡◌, ℕ, false, if◌then◌else◌, List, [], ◌∷◌, length, Option, Some, IsTrue}
 use Rattle.psos_calls.specs.declared.lock_id.LockId.{LockId}
-use Rattle.psos_calls.specs.Script.{Script}
+use Rattle.psos_calls.specs.Language.Script.{Script}
 use Rattle.psos_calls.specs.Levels.{Levels}
-use Rattle.psos_calls.specs.Held.{is_lock, is_held, is_free}
+use Rattle.psos_calls.specs.Locks.Held.{is_lock, is_held, is_free}
 use Rattle.psos_model.specs.Flat.{Flat}
 use Rattle.psos_model.specs.Replay.{System, replay_step}
-use Rattle.psos_model.specs.Core.{CoreState, Event, Close, core_of, locks_of, event_of, core_step, core_after, AreEnabled}
-use Rattle.psos_model.specs.Serial.{SameAt, IsCoreStart, committed}
+use Rattle.psos_model.specs.Events.{CoreState, Event, Close, core_of, locks_of, event_of, core_step, core_after, AreEnabled}
+use Rattle.psos_model.specs.Events.Serial.{SameAt, IsCoreStart, committed}
 
 -- the levels of the core where the lock is free, and else those that were seen before
 abbrev pub if_free : LockId → CoreState → Levels → Levels

@@ -2,16 +2,16 @@
 use Rattle.std.specs.Prelude.{◌≡◌, ◌<◌, ◌≤◌, ◌+◌, ◌*◌, ℕ, false, List, length, map, sum_by, slice_get, Option, Some, None, IfSome, IsTrue}
 use Rattle.psos_calls.specs.declared.lock_id.LockId.{LockId}
 use Rattle.psos_calls.specs.declared.step.Step.{Step}
-use Rattle.psos_calls.specs.Script.{Script, IsWellFormed}
-use Rattle.psos_calls.specs.User.{CanSettle}
+use Rattle.psos_calls.specs.Language.Script.{Script, IsWellFormed}
+use Rattle.psos_calls.specs.Language.User.{CanSettle}
 use Rattle.psos_calls.specs.Levels.{Can}
 use Rattle.psos_model.specs.Flat.{Flat}
-use Rattle.psos_model.specs.Boot.{boot}
+use Rattle.psos_model.specs.Flat.Boot.{boot}
 use Rattle.psos_model.specs.Run.{has_left, run_from, answers_from}
 use Rattle.psos_model.specs.Replay.{System, boot_system, order_of, answered_of}
-use Rattle.psos_model.specs.StandsFor.{StandsFor}
-use Rattle.psos_model.specs.Core.{CoreState, Event, Take, Call, Close, core_of, trace_of, event_of, is_enabled, core_step, core_after, AreEnabled}
-use Rattle.psos_model.specs.Serial.{IsCoreStart, committed}
+use Rattle.psos_model.specs.Replay.StandsFor.{StandsFor}
+use Rattle.psos_model.specs.Events.{CoreState, Event, Take, Call, Close, core_of, trace_of, event_of, is_enabled, core_step, core_after, AreEnabled}
+use Rattle.psos_model.specs.Events.Serial.{IsCoreStart, committed}
 
 -- a script can run from boot
 abbrev pub BootIsCoreStart : Type 0

@@ -1,13 +1,13 @@
 -- What the replay of an order stands for. States docs/promises.md, "Stands for".
 use Rattle.std.specs.Prelude.{◌≡◌, ◌+◌, ◌*◌, ◌≤◌, ◌^◌, ℕ, List, length, map}
-use Rattle.psos_calls.specs.Script.{Script}
+use Rattle.psos_calls.specs.Language.Script.{Script}
 use Rattle.psos_model.specs.Flat.{Flat}
 use Rattle.psos_model.specs.Run.{run_from, answers_from, IsLegalFrom}
 use Rattle.psos_model.specs.Replay.{System, replay_from, entries_from, answered_of}
-use Rattle.psos_model.specs.Output.{calls_of}
+use Rattle.psos_model.specs.Text.Output.{calls_of}
 use Rattle.psos_model.specs.Sound.{IsSound}
-use Rattle.psos_model.specs.StandsFor.{StandsFor}
-use Rattle.psos_model.specs.Serial.{IsCoreStart}
+use Rattle.psos_model.specs.Replay.StandsFor.{StandsFor}
+use Rattle.psos_model.specs.Events.Serial.{IsCoreStart}
 
 -- the replay of an order stands for its run, which is sound and has two identifiers left; it answers as the run does, and makes few calls
 pub record RunStands (s : Script) (y : System) (f : Flat) (order : List ℕ) : Type 0 where

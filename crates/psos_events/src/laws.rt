@@ -1,6 +1,6 @@
 // Laws of events.
 ghost use Rattle.psos_model.specs.Laws.{OneTurnsOrder};
-ghost use Rattle.psos_model.specs.Serial.{EventsAreSerial, NeverStuck};
+ghost use Rattle.psos_model.specs.Events.Serial.{EventsAreSerial, NeverStuck};
 ghost use Rattle.psos_events.specs.Committed.{CommittedWasFree, ClosesCommit, OthersCommitElsewhere};
 ghost use Rattle.psos_events.specs.Replays.{RunsStand};
 ghost use Rattle.psos_events.specs.Events.{BootIsCoreStart, EventsCommit, EventsCanHappen, EventsGoOn, EventsEnd};

@@ -1,6 +1,6 @@
 pub mod Beginnings
-pub mod KeepRule
-pub mod Named
-pub mod Keeping
-pub mod Zeros
-pub mod Meeting
+pub mod StepRule
+pub mod MemberEntries
+pub mod JournalInvariant
+pub mod ZeroLists
+pub mod MetMembers

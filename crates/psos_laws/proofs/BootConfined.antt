@@ -13,22 +13,22 @@ use Rattle.psos_words.specs.Words.{word_at}
 use Rattle.psos_words.specs.Guard.{has_bit}
 use Rattle.psos_calls.specs.declared.request.Request.TheVariants.{Restrict}
 use Rattle.psos_calls.specs.declared.code_row.CodeRow.{CodeRow}
-use Rattle.psos_calls.specs.Script.{Script, UserScript, IsWellFormed, requests_of, user_script}
-use Rattle.psos_calls.specs.User.{User}
+use Rattle.psos_calls.specs.Language.Script.{Script, UserScript, IsWellFormed, requests_of, user_script}
+use Rattle.psos_calls.specs.Language.User.{User}
 use Rattle.psos_model.specs.declared.place.Place.{Place}
 use Rattle.psos_model.specs.declared.place.Place.TheVariants.{Reg, FrameReg, PathAt, SegWord, DirName, BoxAt, Link, ImplOf}
 use Rattle.psos_model.specs.Flat.{Flat, Segment, Directory, Named, named}
-use Rattle.psos_model.specs.Places.{cap_in, own_cap, rep_cap, cap_at, is_own, same_place}
-use Rattle.psos_model.specs.Changes.{kept_entry}
-use Rattle.psos_model.specs.Outcome.{own}
+use Rattle.psos_model.specs.Flat.Places.{cap_in, own_cap, rep_cap, cap_at, is_own, same_place}
+use Rattle.psos_model.specs.Flat.Changes.{kept_entry}
+use Rattle.psos_model.specs.Answer.Outcomes.{own}
 use Rattle.psos_model.specs.Answer.{answer}
-use Rattle.psos_model.specs.Boot.{boot, boot_user, boot_users, boot_regs, process_of, home_rep_of, scratch_of}
+use Rattle.psos_model.specs.Flat.Boot.{boot, boot_user, boot_users, boot_regs, process_of, home_rep_of, scratch_of}
 use Rattle.psos_laws.specs.Landings.{Landing, lands, found}
 use Rattle.psos_laws.specs.History.{Event, event_by}
 use Rattle.psos_laws.specs.Laws.{all_but_bit_0, AProcessIsConfined}
-use Rattle.psos_laws.proofs.Steps.{Step}
-use Rattle.psos_laws.proofs.StepsAnswered.{event_of, answer_steps}
-use Rattle.psos_laws.proofs.PlacesKept.{Came, came}
+use Rattle.psos_laws.proofs.StepLaws.{Step}
+use Rattle.psos_laws.proofs.AnswerSteps.{event_of, answer_steps}
+use Rattle.psos_laws.proofs.PlaceGuards.{Came, came}
 use Rattle.psos_laws.proofs.BootSound.{boot_start}
 use Rattle.psos_laws.proofs.BootSoundUsers.{boot_user_is}
 use Rattle.psos_laws.proofs.BootSoundPlaces.{IsBootRow, RootRow, HomeRow, directory_row, segment_row, box_row, home_entry, root_has, no_cap, by_row, by_entry}

@@ -1,10 +1,10 @@
 -- Boot is sound, and a start. States docs/promises.md, "Sound states".
 use Rattle.std.proofs.Common.{◌≡◌, ◌<◌, arith}
 use Rattle.psos_table.proofs.Tables.{row_empty}
-use Rattle.psos_calls.specs.Script.{Script, IsWellFormed}
-use Rattle.psos_model.specs.Boot.{boot}
-use Rattle.psos_model.specs.Roles as roles
-use Rattle.psos_model.specs.SoundRows.{IsSoundWindow, IsSoundObject, IsSoundCode}
+use Rattle.psos_calls.specs.Language.Script.{Script, IsWellFormed}
+use Rattle.psos_model.specs.Flat.Boot.{boot}
+use Rattle.psos_model.specs.Sound.Roles as roles
+use Rattle.psos_model.specs.Sound.Rows.{IsSoundWindow, IsSoundObject, IsSoundCode}
 use Rattle.psos_model.specs.Sound.{IsSound, IsStart}
 use Rattle.psos_laws.proofs.BootSoundRoles.{boot_role}
 use Rattle.psos_laws.proofs.BootSoundRows.{boot_segments_sound, boot_dirs_sound, boot_boxes_sound, boot_root, boot_homes, boot_processes, boot_life_sound, few_objects, few_windows}

@@ -16,23 +16,23 @@ use Rattle.psos_text.specs.declared.name.Name.{Name}
 use Rattle.psos_words.specs.declared.word.Word.{Word}
 use Rattle.psos_words.specs.Words.{zeros, word_at}
 use Rattle.psos_words.specs.Guard.{missing}
-use Rattle.psos_calls.specs.Names.{name_cmp}
+use Rattle.psos_calls.specs.Language.Names.{name_cmp}
 use Rattle.psos_calls.specs.declared.kind.Kind.{Kind}
 use Rattle.psos_calls.specs.declared.code_row.CodeRow.{CodeRow}
-use Rattle.psos_calls.specs.Script.{Script, UserScript}
-use Rattle.psos_calls.specs.User.{User}
-use Rattle.psos_calls.specs.Plan.{uid}
+use Rattle.psos_calls.specs.Language.Script.{Script, UserScript}
+use Rattle.psos_calls.specs.Language.User.{User}
+use Rattle.psos_calls.specs.Language.Capabilities.{uid}
 use Rattle.psos_model.specs.declared.place.Place.{Place}
 use Rattle.psos_model.specs.declared.place.Place.TheVariants.{Reg, FrameReg, PathAt, SegWord, DirName, BoxAt, Link, ImplOf}
 use Rattle.psos_model.specs.Flat.{Segment, Directory, Named as Entry, Names, named}
-use Rattle.psos_model.specs.Places.{cap_at, cap_in, own_cap, rep_cap, guard_at}
-use Rattle.psos_model.specs.Changes.{new_segment, kept_entry}
-use Rattle.psos_model.specs.Boot.{boot, boot_user, boot_regs, guard_1, home_of, scratch_of, scratch_name}
-use Rattle.psos_model.specs.Guarded.{IsGuarded}
-use Rattle.psos_model.specs.Kept.{IsKept, entry_in}
-use Rattle.psos_model.specs.Roles.{HiddenIn}
+use Rattle.psos_model.specs.Flat.Places.{cap_at, cap_in, own_cap, rep_cap, guard_at}
+use Rattle.psos_model.specs.Flat.Changes.{new_segment, kept_entry}
+use Rattle.psos_model.specs.Flat.Boot.{boot, boot_user, boot_regs, guard_1, home_of, scratch_of, scratch_name}
+use Rattle.psos_model.specs.Sound.Guarded.{IsGuarded}
+use Rattle.psos_model.specs.Sound.Kept.{IsKept, entry_in}
+use Rattle.psos_model.specs.Sound.Roles.{HiddenIn}
 use Rattle.psos_model.proofs.NameOrder.{name_cmp_total, same_name}
-use Rattle.psos_model.proofs.Asked.{got_within}
+use Rattle.psos_model.proofs.RequestRanges.{got_within}
 use Rattle.psos_model.proofs.BootRows.{each_row, segments_are, boxes_are, dirs_are, root_row, home_row}
 use Rattle.psos_laws.proofs.BootSoundRoles.{boot_role, Named, Root, Process, Home, Scratch, named_below, named_open, one_directory}
 use Rattle.psos_laws.proofs.BootSoundRows.{rows_as, boot_dirs_sound, home_lives, IsScratch, life_is, scratch_lives}

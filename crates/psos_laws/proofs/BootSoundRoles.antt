@@ -2,9 +2,9 @@
 use Rattle.std.proofs.Common.{◌≡◌, ℕ, zero, suc, ◌+◌, ◌-◌, ◌*◌, ◌%◌, ◌<◌, ◌≤◌, ◌==◌, Bool, true, false, cond, refl, sym, ap, subst, ◌∙◌, arith}
 use Rattle.std.specs.Prelude.{⊤}
 use Rattle.std.proofs.lemmas.Bool.{ne_eqb}
-use Rattle.psos_model.specs.Roles.{Role, HiddenIn}
-use Rattle.psos_model.specs.Roles as roles
-use Rattle.psos_model.specs.Boot.{process_of, home_of, home_rep_of, scratch_of}
+use Rattle.psos_model.specs.Sound.Roles.{Role, HiddenIn}
+use Rattle.psos_model.specs.Sound.Roles as roles
+use Rattle.psos_model.specs.Flat.Boot.{process_of, home_of, home_rep_of, scratch_of}
 
 -- of a user's four identifiers: its process, its home, the home's representation, and its scratch segment
 abbrev by_rest : ℕ → ℕ → Role

@@ -8,18 +8,18 @@ use Rattle.psos_table.specs.Table.{Table, at, put, size}
 use Rattle.psos_table.proofs.Tables.{at-put_here, row_put, row_empty, size-empty}
 use Rattle.psos_words.specs.declared.word.Word.{Word}
 use Rattle.psos_words.specs.declared.word.Word.TheVariants.{Data}
-use Rattle.psos_calls.specs.Names.{name_cmp}
+use Rattle.psos_calls.specs.Language.Names.{name_cmp}
 use Rattle.psos_calls.specs.declared.kind.Kind.{Kind}
 use Rattle.psos_calls.specs.declared.kind.Kind.TheVariants as kinds
 use Rattle.psos_calls.specs.declared.win_row.WinRow.{WinRow}
 use Rattle.psos_calls.specs.declared.code_row.CodeRow.{CodeRow}
-use Rattle.psos_calls.specs.Script.{Script, IsWellFormed}
+use Rattle.psos_calls.specs.Language.Script.{Script, IsWellFormed}
 use Rattle.psos_model.specs.Flat.{Segment, Object, Directory, Named, Names}
-use Rattle.psos_model.specs.Changes.{new_segment, kept_entry}
-use Rattle.psos_model.specs.Boot.{boot, guard_1, process_of, home_of, home_rep_of, scratch_of, scratch_name, home_names}
-use Rattle.psos_model.specs.Roles.{Role, HiddenIn, IsUserObject, IsBootDirectory}
-use Rattle.psos_model.specs.Roles as roles
-use Rattle.psos_model.specs.SoundRows.{IsGuard, IsSoundSegment, IsSoundDirectory, IsSoundProcess}
+use Rattle.psos_model.specs.Flat.Changes.{new_segment, kept_entry}
+use Rattle.psos_model.specs.Flat.Boot.{boot, guard_1, process_of, home_of, home_rep_of, scratch_of, scratch_name, home_names}
+use Rattle.psos_model.specs.Sound.Roles.{Role, HiddenIn, IsUserObject, IsBootDirectory}
+use Rattle.psos_model.specs.Sound.Roles as roles
+use Rattle.psos_model.specs.Sound.Rows.{IsGuard, IsSoundSegment, IsSoundDirectory, IsSoundProcess}
 use Rattle.psos_model.specs.Sound.{IsFromBoot}
 use Rattle.psos_model.proofs.NameOrder.{name_cmp_total}
 use Rattle.psos_model.proofs.BootRows.{each_row, base_row, user_row, rows_size, segments_are, life_are, boxes_are, dirs_are, root_row, home_row}

@@ -2,14 +2,14 @@
 use Rattle.std.proofs.Common.{◌≡◌, ℕ, zero, suc, ◌+◌, List, [], ◌∷◌, length, Some, refl, sym, ap, subst, ◌∙◌, arith}
 use Rattle.std.specs.Prelude.{slice_get}
 use Rattle.std.proofs.lemmas.Option.{same_Some, none-some, get_or_from_slice_get}
-use Rattle.psos_calls.specs.Script.{Script, UserScript, IsWellFormed, requests_of}
-use Rattle.psos_calls.specs.User.{User}
-use Rattle.psos_model.specs.Boot.{boot, boot_user, boot_users}
-use Rattle.psos_model.specs.Within.{IsShort}
-use Rattle.psos_model.specs.SoundUser.{IsSoundUser}
+use Rattle.psos_calls.specs.Language.Script.{Script, UserScript, IsWellFormed, requests_of}
+use Rattle.psos_calls.specs.Language.User.{User}
+use Rattle.psos_model.specs.Flat.Boot.{boot, boot_user, boot_users}
+use Rattle.psos_model.specs.Flat.Within.{IsShort}
+use Rattle.psos_model.specs.Sound.Users.{IsSoundUser}
 use Rattle.psos_model.specs.Sound.{IsFresh}
-use Rattle.psos_model.proofs.Asked.{all_get}
-use Rattle.psos_model.proofs.Leftover.{are_short}
+use Rattle.psos_model.proofs.RequestRanges.{all_get}
+use Rattle.psos_model.proofs.RequestsLeft.{are_short}
 
 -- user u of a list that is counted from i, and its text
 record IsFrom (i : ℕ) (users : List UserScript) (u : ℕ) (x : User) : Type 0 where

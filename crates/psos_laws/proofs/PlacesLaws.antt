@@ -3,9 +3,9 @@ use Rattle.std.proofs.Common.{◌≡◌, ◌⊎◌, inl, inr, ℕ, zero, suc, �
 use Rattle.std.specs.List.{AllByRecursion}
 use Rattle.std.proofs.lemmas.Option.{same_Some, none-some}
 use Rattle.psos_caps.specs.Capability.{Capability}
-use Rattle.psos_calls.specs.Script.{Script}
+use Rattle.psos_calls.specs.Language.Script.{Script}
 use Rattle.psos_model.specs.Flat.{Flat}
-use Rattle.psos_model.specs.Outcome.{Source}
+use Rattle.psos_model.specs.Answer.Outcomes.{Source}
 use Rattle.psos_model.specs.Answer.{answer}
 use Rattle.psos_model.specs.Run.{run_from}
 use Rattle.psos_model.specs.Sound.{IsSound}
@@ -14,11 +14,11 @@ use Rattle.psos_laws.specs.Landings.{Landing}
 use Rattle.psos_laws.specs.History.{event_at, history_from}
 use Rattle.psos_laws.specs.Trails.{IsConfined}
 use Rattle.psos_laws.specs.Laws.{IsLawful, LandingsAreAll, UnreadIsNew}
-use Rattle.psos_laws.proofs.Steps.{Lawful, IsNew, IsCopyFrom}
-use Rattle.psos_laws.proofs.StepsAnswered.{ground_of, answer_steps}
-use Rattle.psos_laws.proofs.PlacesLed.{KeepsSound, firm_at, run_led, start_led}
-use Rattle.psos_laws.proofs.PlacesOrigins.{sound_origins, all_landed, is_sealed}
-use Rattle.psos_laws.proofs.PlacesTrails.{is_held_back, keeps_confined}
+use Rattle.psos_laws.proofs.StepLaws.{Lawful, IsNew, IsCopyFrom}
+use Rattle.psos_laws.proofs.AnswerSteps.{ground_of, answer_steps}
+use Rattle.psos_laws.proofs.Histories.{KeepsSound, firm_at, run_led, start_led}
+use Rattle.psos_laws.proofs.Origins.{sound_origins, all_landed, is_sealed}
+use Rattle.psos_laws.proofs.Trails.{is_held_back, keeps_confined}
 
 -- ---- one answer
 

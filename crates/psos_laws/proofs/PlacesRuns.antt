@@ -1,13 +1,13 @@
 -- The laws of places of whole runs.
 use Rattle.std.proofs.Common.{ℕ, List}
-use Rattle.psos_calls.specs.Script.{Script, IsWellFormed}
+use Rattle.psos_calls.specs.Language.Script.{Script, IsWellFormed}
 use Rattle.psos_model.specs.Flat.{Flat}
 use Rattle.psos_model.specs.Run.{run_from}
 use Rattle.psos_model.specs.Sound.{IsSound}
 use Rattle.psos_laws.specs.History.{history_from}
 use Rattle.psos_laws.specs.Laws.{IsLawful, RunsAreLawful, ConfinedStays}
 use Rattle.psos_laws.proofs.SharedSound.{answers_kept}
-use Rattle.psos_laws.proofs.PlacesLed.{KeepsSound}
+use Rattle.psos_laws.proofs.Histories.{KeepsSound}
 use Rattle.psos_laws.proofs.PlacesLaws as laws
 
 keeps : (s : Script) → IsWellFormed s → KeepsSound s

@@ -8,12 +8,12 @@ use Rattle.psos_table.specs.Table.{Table, at, put, without, edit}
 use Rattle.psos_table.proofs.Tables.{at-put_apart, at-edit_here, at-edit_apart, at-without_apart}
 use Rattle.psos_calls.specs.declared.kind.Kind.{Kind}
 use Rattle.psos_calls.specs.declared.kind.Kind.TheVariants as kinds
-use Rattle.psos_calls.specs.Script.{Script}
-use Rattle.psos_calls.specs.User.{User}
+use Rattle.psos_calls.specs.Language.Script.{Script}
+use Rattle.psos_calls.specs.Language.User.{User}
 use Rattle.psos_model.specs.Flat.{Flat, Directory}
-use Rattle.psos_model.specs.Boot.{process_of, home_of, home_rep_of}
-use Rattle.psos_model.specs.Roles.{Role, IsUserObject, IsBootDirectory}
-use Rattle.psos_model.specs.Roles as roles
+use Rattle.psos_model.specs.Flat.Boot.{process_of, home_of, home_rep_of}
+use Rattle.psos_model.specs.Sound.Roles.{Role, IsUserObject, IsBootDirectory}
+use Rattle.psos_model.specs.Sound.Roles as roles
 use Rattle.psos_model.specs.Sound.{IsFromBoot}
 use Rattle.psos_laws.proofs.SharedRows.{Rows}
 

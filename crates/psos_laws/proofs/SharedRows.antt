@@ -16,17 +16,17 @@ use Rattle.psos_words.specs.declared.word.Word.TheVariants.{Data}
 use Rattle.psos_calls.specs.declared.kind.Kind.{Kind}
 use Rattle.psos_calls.specs.declared.win_row.WinRow.{WinRow}
 use Rattle.psos_calls.specs.declared.code_row.CodeRow.{CodeRow}
-use Rattle.psos_calls.specs.Script.{Script}
-use Rattle.psos_calls.specs.User.{User}
-use Rattle.psos_calls.specs.Level8.{is_not_over}
-use Rattle.psos_calls.specs.Names.{name_cmp}
+use Rattle.psos_calls.specs.Language.Script.{Script}
+use Rattle.psos_calls.specs.Language.User.{User}
+use Rattle.psos_calls.specs.Language.Views.{is_not_over}
+use Rattle.psos_calls.specs.Language.Names.{name_cmp}
 use Rattle.psos_model.specs.Flat.{Flat, Segment, Object, Directory, Named, Names}
-use Rattle.psos_model.specs.Changes.{new_segment, windows_but, with_entry, without_entry}
-use Rattle.psos_model.specs.AnswerLife.{has_objects}
+use Rattle.psos_model.specs.Flat.Changes.{new_segment, windows_but, with_entry, without_entry}
+use Rattle.psos_model.specs.Answer.Objects.{has_objects}
 use Rattle.psos_model.proofs.NameOrder.{name_cmp_total}
-use Rattle.psos_model.specs.Roles.{Role, PartOf, HiddenIn}
-use Rattle.psos_model.specs.Roles as roles
-use Rattle.psos_model.specs.SoundRows.{IsGuard, IsSoundSegment, IsSoundWindow, IsSoundObject, IsSoundDirectory, IsSoundProcess, IsSoundCode}
+use Rattle.psos_model.specs.Sound.Roles.{Role, PartOf, HiddenIn}
+use Rattle.psos_model.specs.Sound.Roles as roles
+use Rattle.psos_model.specs.Sound.Rows.{IsGuard, IsSoundSegment, IsSoundWindow, IsSoundObject, IsSoundDirectory, IsSoundProcess, IsSoundCode}
 
 -- what is live, table by table
 pub record Rows (s : Script) (role : ℕ → Role) (f : Flat) : Type 0 where

@@ -1,14 +1,14 @@
 -- Each answer, and so each run, keeps a state sound.
 use Rattle.std.proofs.Common.{[], ◌∷◌}
-use Rattle.psos_calls.specs.Script.{Script}
+use Rattle.psos_calls.specs.Language.Script.{Script}
 use Rattle.psos_model.specs.Flat.{Flat}
 use Rattle.psos_model.specs.Answer.{answer}
 use Rattle.psos_model.specs.Sound.{IsSound}
 use Rattle.psos_model.specs.Laws.{AnswersKeepSound, RunsKeepSound}
 use Rattle.psos_laws.specs.SoundParts.{IsSoundUsers, IsSoundPlaces, IsSoundShared}
-use Rattle.psos_laws.proofs.Users.{users_kept}
-use Rattle.psos_laws.proofs.PlacesKept.{places_kept}
-use Rattle.psos_laws.proofs.Shared.{shared_kept}
+use Rattle.psos_laws.proofs.UsersSound.{users_kept}
+use Rattle.psos_laws.proofs.PlaceGuards.{places_kept}
+use Rattle.psos_laws.proofs.SharedAnswers.{shared_kept}
 
 -- a state whose three parts are sound is sound
 pub sound_of : (s : Script) (f : Flat) → IsSoundUsers s f → IsSoundPlaces f → IsSoundShared s f → IsSound s f

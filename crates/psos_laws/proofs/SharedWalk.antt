@@ -23,32 +23,32 @@ use Rattle.psos_calls.specs.declared.tab.Tab.TheVariants.{Windows, Path, Mailbox
 use Rattle.psos_calls.specs.declared.win_row.WinRow.{WinRow}
 use Rattle.psos_calls.specs.declared.request.Request.{Request}
 use Rattle.psos_calls.specs.declared.request.Request.TheVariants as asks
-use Rattle.psos_calls.specs.Request.{InRange}
-use Rattle.psos_calls.specs.Rights.{has}
-use Rattle.psos_calls.specs.Script.{Script}
-use Rattle.psos_calls.specs.Tests.{if_there, if_none, if_cap, if_data, if_holds}
-use Rattle.psos_calls.specs.User.{User, here}
-use Rattle.psos_calls.specs.Level8.{View, whole, through, fits_in, part_of}
-use Rattle.psos_calls.specs.PlanParts.{is_length}
-use Rattle.psos_calls.specs.PlanLife.{guard_of}
+use Rattle.psos_calls.specs.Language.Request.{InRange}
+use Rattle.psos_calls.specs.Language.Rights.{has}
+use Rattle.psos_calls.specs.Language.Script.{Script}
+use Rattle.psos_calls.specs.Language.Tests.{if_there, if_none, if_cap, if_data, if_holds}
+use Rattle.psos_calls.specs.Language.User.{User, here}
+use Rattle.psos_calls.specs.Language.Views.{View, whole, through, fits_in, part_of}
+use Rattle.psos_calls.specs.Language.Stores.{is_length}
+use Rattle.psos_calls.specs.Language.Stores.{guard_of}
 use Rattle.psos_model.specs.Flat.{Flat, Segment, Directory, Named, named, flat_view, flat_shape, flat_shapes}
 use Rattle.psos_model.specs.declared.change.Change.TheVariants.{Fresh, MakeWindow, Unregister}
-use Rattle.psos_model.specs.Changes.{changed_all, kept_entry}
-use Rattle.psos_model.specs.Kept.{entry_in}
-use Rattle.psos_model.specs.Outcome.{Outcome, Source, refuse, gives, if_view, if_dir, if_room, if_object_room, make_in}
-use Rattle.psos_model.specs.AnswerDir.{find_in}
-use Rattle.psos_model.specs.AnswerLife.{has_objects, drops}
-use Rattle.psos_model.specs.AnswerProc.{received}
+use Rattle.psos_model.specs.Flat.Changes.{changed_all, kept_entry}
+use Rattle.psos_model.specs.Sound.Kept.{entry_in}
+use Rattle.psos_model.specs.Answer.Outcomes.{Outcome, Source, refuse, gives, if_view, if_dir, if_room, if_object_room, make_in}
+use Rattle.psos_model.specs.Answer.Directories.{find_in}
+use Rattle.psos_model.specs.Answer.Objects.{has_objects, drops}
+use Rattle.psos_model.specs.Answer.Processes.{received}
 use Rattle.psos_model.specs.Answer.{outcome}
-use Rattle.psos_model.specs.Roles.{Role}
-use Rattle.psos_model.specs.Roles as roles
-use Rattle.psos_model.specs.SoundRows.{IsGuard}
+use Rattle.psos_model.specs.Sound.Roles.{Role}
+use Rattle.psos_model.specs.Sound.Roles as roles
+use Rattle.psos_model.specs.Sound.Rows.{IsGuard}
 use Rattle.psos_laws.specs.SoundParts.{IsSoundShared}
 use Rattle.psos_laws.proofs.SharedRows.{Rows}
-use Rattle.psos_laws.proofs.HomesKept.{name_in}
+use Rattle.psos_laws.proofs.Homes.{name_in}
 use Rattle.psos_laws.proofs.SharedWhole.{Whole, whole_of, shared_of, whole_raised, whole_word, whole_window, whole_post, whole_draw, whole_bind, whole_unbind}
-use Rattle.psos_laws.proofs.SharedMade.{HasPlace, with_at, with_at_here, with_at_apart, mkseg_sound, mktype_sound, mkcode_sound, mkobj_sound, mkdir_sound}
-use Rattle.psos_laws.proofs.SharedGone.{segment_gone_sound, type_gone_sound, code_gone_sound, object_gone_sound, directory_gone_sound}
+use Rattle.psos_laws.proofs.SharedCreations.{HasPlace, with_at, with_at_here, with_at_apart, mkseg_sound, mktype_sound, mkcode_sound, mkobj_sound, mkdir_sound}
+use Rattle.psos_laws.proofs.SharedDeletions.{segment_gone_sound, type_gone_sound, code_gone_sound, object_gone_sound, directory_gone_sound}
 
 -- ---- a refusal, or what goes on with what was seen
 

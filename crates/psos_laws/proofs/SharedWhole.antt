@@ -12,16 +12,16 @@ use Rattle.psos_text.specs.declared.name.Name.{Name}
 use Rattle.psos_words.specs.declared.word.Word.{Word}
 use Rattle.psos_calls.specs.declared.kind.Kind.{Kind}
 use Rattle.psos_calls.specs.declared.win_row.WinRow.{WinRow}
-use Rattle.psos_calls.specs.Script.{Script}
-use Rattle.psos_calls.specs.User.{User}
+use Rattle.psos_calls.specs.Language.Script.{Script}
+use Rattle.psos_calls.specs.Language.User.{User}
 use Rattle.psos_model.specs.Flat.{Flat, Directory, Named, named}
-use Rattle.psos_model.specs.Changes.{with_entry, without_entry, kept_entry}
-use Rattle.psos_model.specs.Kept.{IsKept, entry_in}
-use Rattle.psos_model.specs.Roles.{Role, IsUserObject}
-use Rattle.psos_model.specs.SoundRows.{IsSoundWindow}
+use Rattle.psos_model.specs.Flat.Changes.{with_entry, without_entry, kept_entry}
+use Rattle.psos_model.specs.Sound.Kept.{IsKept, entry_in}
+use Rattle.psos_model.specs.Sound.Roles.{Role, IsUserObject}
+use Rattle.psos_model.specs.Sound.Rows.{IsSoundWindow}
 use Rattle.psos_laws.specs.SoundParts.{IsSoundShared}
 use Rattle.psos_laws.proofs.SharedRows.{Rows, rows_raised, word_rows, window_rows, entry_rows, no_entry_rows, post_rows, draw_rows}
-use Rattle.psos_laws.proofs.HomesKept.{name_in, kept_on, kept_raised, kept_bind, kept_unbind, kept_register, kept_unregister}
+use Rattle.psos_laws.proofs.Homes.{name_in, kept_on, kept_raised, kept_bind, kept_unbind, kept_register, kept_unregister}
 use Rattle.psos_laws.proofs.RolesLife.{SameLive, Alike, alike, alike_through, Life, life_on, life_raised, life_put, life_gone, kind_of, stays, stays_edit, Boots, boots_on}
 
 -- what users share, in parts

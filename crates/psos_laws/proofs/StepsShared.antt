@@ -7,22 +7,22 @@ use Rattle.psos_table.specs.Table.{at}
 use Rattle.psos_table.proofs.Tables.{row_put, row_without, row_kept, row_edited}
 use Rattle.psos_caps.specs.Capability.{Capability}
 use Rattle.psos_calls.specs.declared.win_row.WinRow.{WinRow}
-use Rattle.psos_calls.specs.Level8.{is_not_over}
-use Rattle.psos_calls.specs.Plan.{uid}
-use Rattle.psos_calls.specs.User.{User}
+use Rattle.psos_calls.specs.Language.Views.{is_not_over}
+use Rattle.psos_calls.specs.Language.Capabilities.{uid}
+use Rattle.psos_calls.specs.Language.User.{User}
 use Rattle.psos_model.specs.declared.place.Place.{Place}
 use Rattle.psos_model.specs.declared.place.Place.TheVariants.{Reg, FrameReg, PathAt, SegWord, DirName, BoxAt, Link, ImplOf}
 use Rattle.psos_model.specs.Flat.{Flat, Segment, Object, Directory}
-use Rattle.psos_model.specs.Places.{cap_at, own_cap, is_own, guard_at}
+use Rattle.psos_model.specs.Flat.Places.{cap_at, own_cap, is_own, guard_at}
 use Rattle.psos_model.specs.declared.change.Change.{Change}
 use Rattle.psos_model.specs.declared.change.Change.TheVariants.{Fresh, PutWord, Bind, Unbind, Register, Unregister, Draw, MakeSegment, MakeWindow, MakeObject, MakeDirectory, DropSegment, DropObject, DropDirectory}
-use Rattle.psos_model.specs.Changes.{changed, changed_all, new_segment, kept_entry, with_entry, without_entry}
-use Rattle.psos_model.specs.Outcome.{Source}
-use Rattle.psos_model.proofs.AboveAnswers.{next_is, next_after}
+use Rattle.psos_model.specs.Flat.Changes.{changed, changed_all, new_segment, kept_entry, with_entry, without_entry}
+use Rattle.psos_model.specs.Answer.Outcomes.{Source}
+use Rattle.psos_model.proofs.AnswerBounds.{next_is, next_after}
 use Rattle.psos_laws.specs.Landings.{change_puts, changes_put, before_change, before, landed}
-use Rattle.psos_laws.proofs.Puts.{landed_append}
-use Rattle.psos_laws.proofs.Arrives.{Safe, AreSafe}
-use Rattle.psos_laws.proofs.Steps.{OldDir, MakesWindow, MakesObject, MakesDir, Ground}
+use Rattle.psos_laws.proofs.Landings.{landed_append}
+use Rattle.psos_laws.proofs.ChangeArrivals.{Safe, AreSafe}
+use Rattle.psos_laws.proofs.StepLaws.{OldDir, MakesWindow, MakesObject, MakesDir, Ground}
 
 pub next_later : (f : Flat) (cs : List Change) → f.next ≤ (changed_all f cs).next
 next_later f cs = omega (arith, next_after f cs)

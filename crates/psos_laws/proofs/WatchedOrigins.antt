@@ -1,18 +1,18 @@
 -- The origins that are kept with a legal run. States docs/promises.md, "Origins".
 use Rattle.std.proofs.Common.{◌≡◌, ℕ, ◌+◌, ◌<◌, List, [], ◌∷◌, length, slice_get, sym, ap, subst, ◌∙◌, arith}
 use Rattle.std.specs.Prelude.{◌^◌}
-use Rattle.psos_calls.specs.Script.{Script, IsWellFormed}
+use Rattle.psos_calls.specs.Language.Script.{Script, IsWellFormed}
 use Rattle.psos_model.specs.Flat.{Flat}
 use Rattle.psos_model.specs.Answer.{answer}
-use Rattle.psos_model.specs.Boot.{boot}
+use Rattle.psos_model.specs.Flat.Boot.{boot}
 use Rattle.psos_model.specs.Run.{IsLegalFrom, run}
 use Rattle.psos_model.specs.Sound.{IsSound}
 use Rattle.psos_laws.specs.declared.origins.Origins.{Origins}
 use Rattle.psos_laws.specs.History.{Event, event_at, past_after, history}
 use Rattle.psos_laws.specs.Arrivals.{AreFull, Tells}
-use Rattle.psos_laws.proofs.ArrivalsKept.{are_full, tells_boot}
+use Rattle.psos_laws.proofs.OriginTables.{are_full, tells_boot}
 use Rattle.psos_laws.proofs.BootSound.{boot_start}
-use Rattle.psos_laws.proofs.OrdersEnd.{orders_end}
+use Rattle.psos_laws.proofs.OrderLengths.{orders_end}
 use Rattle.psos_laws.proofs.SharedSound.{runs_kept}
 
 -- ---- a legal run

@@ -2,25 +2,25 @@
 use Rattle.std.proofs.Common.{◌≡◌, ℕ, ◌+◌, ◌*◌, ◌≤◌, List, [], ◌∷◌, ◌++◌, length, refl, sym, ap, subst, ◌∙◌, arith}
 use Rattle.std.specs.Prelude.{IsTrue}
 use Rattle.psos_text.specs.declared.name.Name.{Name}
-use Rattle.psos_calls.specs.Script.{Script, IsWellFormed}
+use Rattle.psos_calls.specs.Language.Script.{Script, IsWellFormed}
 use Rattle.psos_model.specs.Flat.{Flat}
 use Rattle.psos_model.specs.Answer.{answer}
-use Rattle.psos_model.specs.Boot.{boot}
-use Rattle.psos_model.specs.CanStep.{CanStep}
-use Rattle.psos_model.specs.Kept.{IsKept}
+use Rattle.psos_model.specs.Flat.Boot.{boot}
+use Rattle.psos_model.specs.Answer.CanStep.{CanStep}
+use Rattle.psos_model.specs.Sound.Kept.{IsKept}
 use Rattle.psos_model.specs.Run.{IsLegalFrom, run_from, run, has_left}
 use Rattle.psos_model.specs.Sound.{IsSound}
-use Rattle.psos_model.proofs.AboveAnswers.{at_most_two}
+use Rattle.psos_model.proofs.AnswerBounds.{at_most_two}
 use Rattle.psos_model.proofs.Orders.{run_append, legal_more}
 use Rattle.psos_laws.specs.History.{history}
 use Rattle.psos_laws.specs.Trails.{IsConfined}
 use Rattle.psos_laws.specs.Laws.{IsLawful}
 use Rattle.psos_laws.proofs.BootSound.{boot_start}
-use Rattle.psos_laws.proofs.OrdersEnd.{orders_end}
+use Rattle.psos_laws.proofs.OrderLengths.{orders_end}
 use Rattle.psos_laws.proofs.PlacesLaws.{confined_stays_once}
 use Rattle.psos_laws.proofs.PlacesRuns.{run_is_lawful}
 use Rattle.psos_laws.proofs.SharedSound.{runs_kept}
-use Rattle.psos_laws.proofs.UsersStep.{can_step}
+use Rattle.psos_laws.proofs.RoomToStep.{can_step}
 
 -- each request uses two identifiers at most
 next_most : (s : Script) (order : List ℕ) (f : Flat) → (run_from s f order).next ≤ f.next + 2 * length order

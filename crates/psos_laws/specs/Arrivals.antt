@@ -7,16 +7,16 @@ use Rattle.psos_calls.specs.declared.effect.Effect.{Effect}
 use Rattle.psos_calls.specs.declared.effect.Effect.TheVariants.{Enter}
 use Rattle.psos_calls.specs.declared.frame.Frame.{Frame}
 use Rattle.psos_calls.specs.declared.request.Request.{Request}
-use Rattle.psos_calls.specs.Script.{Script}
-use Rattle.psos_calls.specs.Tests.{if_there}
-use Rattle.psos_calls.specs.User.{User, next_request, here}
+use Rattle.psos_calls.specs.Language.Script.{Script}
+use Rattle.psos_calls.specs.Language.Tests.{if_there}
+use Rattle.psos_calls.specs.Language.User.{User, next_request, here}
 use Rattle.psos_model.specs.declared.place.Place.{Place}
 use Rattle.psos_model.specs.declared.place.Place.TheVariants.{FrameReg, BoxAt}
 use Rattle.psos_model.specs.declared.change.Change.{Change}
 use Rattle.psos_model.specs.declared.change.Change.TheVariants.{Draw}
 use Rattle.psos_model.specs.Flat.{Flat}
-use Rattle.psos_model.specs.Places.{same_place, reg_place, frame_at}
-use Rattle.psos_model.specs.Outcome.{Source, own}
+use Rattle.psos_model.specs.Flat.Places.{same_place, reg_place, frame_at}
+use Rattle.psos_model.specs.Answer.Outcomes.{Source, own}
 use Rattle.psos_model.specs.Answer.{outcome}
 use Rattle.psos_laws.specs.declared.arrival.Arrival as arrival
 use Rattle.psos_laws.specs.declared.arrivals.Arrivals as arrivals

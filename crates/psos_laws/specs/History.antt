@@ -3,15 +3,15 @@ use Rattle.std.specs.Prelude.{◌≡◌, ◌≤◌, ℕ, ◌==◌, if◌then◌e
 use Rattle.std.specs.Option.{option_map}
 use Rattle.psos_caps.specs.Capability.{Capability}
 use Rattle.psos_calls.specs.declared.request.Request.{Request}
-use Rattle.psos_calls.specs.Script.{Script}
-use Rattle.psos_calls.specs.User.{User, next_request}
-use Rattle.psos_calls.specs.Tests.{if_there}
+use Rattle.psos_calls.specs.Language.Script.{Script}
+use Rattle.psos_calls.specs.Language.User.{User, next_request}
+use Rattle.psos_calls.specs.Language.Tests.{if_there}
 use Rattle.psos_model.specs.declared.place.Place.{Place}
 use Rattle.psos_model.specs.Flat.{Flat}
-use Rattle.psos_model.specs.Places.{cap_at}
-use Rattle.psos_model.specs.Outcome.{Source}
+use Rattle.psos_model.specs.Flat.Places.{cap_at}
+use Rattle.psos_model.specs.Answer.Outcomes.{Source}
 use Rattle.psos_model.specs.Answer.{outcome, answer}
-use Rattle.psos_model.specs.Boot.{boot}
+use Rattle.psos_model.specs.Flat.Boot.{boot}
 use Rattle.psos_laws.specs.declared.origin.Origin.{Origin}
 use Rattle.psos_laws.specs.declared.way.Way.{Way}
 use Rattle.psos_laws.specs.declared.way.Way.TheVariants.{Boot, Made, Copied}

@@ -9,18 +9,18 @@ use Rattle.psos_calls.specs.declared.frame.Frame.{Frame}
 use Rattle.psos_calls.specs.declared.request.Request.{Request}
 use Rattle.psos_calls.specs.declared.effect.Effect.{Effect}
 use Rattle.psos_calls.specs.declared.effect.Effect.TheVariants.{Nothing, Put, Push, Enter}
-use Rattle.psos_calls.specs.Script.{Script, body_of}
-use Rattle.psos_calls.specs.User.{User, here, counted, settled}
-use Rattle.psos_calls.specs.Plan.{uid}
-use Rattle.psos_calls.specs.Tests.{if_there}
+use Rattle.psos_calls.specs.Language.Script.{Script, body_of}
+use Rattle.psos_calls.specs.Language.User.{User, here, counted, settled}
+use Rattle.psos_calls.specs.Language.Capabilities.{uid}
+use Rattle.psos_calls.specs.Language.Tests.{if_there}
 use Rattle.psos_model.specs.declared.place.Place.{Place}
 use Rattle.psos_model.specs.declared.place.Place.TheVariants.{Reg, FrameReg, PathAt, SegWord, DirName, BoxAt, Link, ImplOf}
 use Rattle.psos_model.specs.Flat.{Flat, Segment, Directory, named}
-use Rattle.psos_model.specs.Places.{same_place, reg_place, cap_in, frame_at}
+use Rattle.psos_model.specs.Flat.Places.{same_place, reg_place, cap_in, frame_at}
 use Rattle.psos_model.specs.declared.change.Change.{Change}
 use Rattle.psos_model.specs.declared.change.Change.TheVariants.{PutWord, Bind, Register, Post, Draw, MakeObject, MakeDirectory, MakeCode}
-use Rattle.psos_model.specs.Changes.{changed}
-use Rattle.psos_model.specs.Outcome.{Source, own}
+use Rattle.psos_model.specs.Flat.Changes.{changed}
+use Rattle.psos_model.specs.Answer.Outcomes.{Source, own}
 use Rattle.psos_model.specs.Answer.{outcome}
 
 -- a word that comes to a place, and the place that it was read from, if any

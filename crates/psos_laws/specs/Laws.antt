@@ -5,15 +5,15 @@ use Rattle.psos_caps.specs.declared.rights.Rights.{Rights}
 use Rattle.psos_words.specs.declared.word.Word.TheVariants.{Cap}
 use Rattle.psos_calls.specs.declared.request.Request.TheVariants.{Restrict}
 use Rattle.psos_calls.specs.declared.right.Right.TheVariants.{Send}
-use Rattle.psos_calls.specs.Rights.{bit_of}
-use Rattle.psos_calls.specs.Script.{Script, IsWellFormed, requests_of, user_script}
+use Rattle.psos_calls.specs.Language.Rights.{bit_of}
+use Rattle.psos_calls.specs.Language.Script.{Script, IsWellFormed, requests_of, user_script}
 use Rattle.psos_model.specs.declared.place.Place.{Place}
 use Rattle.psos_model.specs.Flat.{Flat}
-use Rattle.psos_model.specs.Places.{cap_in, cap_at}
+use Rattle.psos_model.specs.Flat.Places.{cap_in, cap_at}
 use Rattle.psos_model.specs.Answer.{answer}
-use Rattle.psos_model.specs.Boot.{process_of}
+use Rattle.psos_model.specs.Flat.Boot.{process_of}
 use Rattle.psos_model.specs.Run.{run_from, run}
-use Rattle.psos_model.specs.Guarded.{IsGuarded}
+use Rattle.psos_model.specs.Sound.Guarded.{IsGuarded}
 use Rattle.psos_model.specs.Sound.{IsSound}
 use Rattle.psos_laws.specs.Landings.{Landing, found, landed, IsThere}
 use Rattle.psos_laws.specs.History.{Event, event_at, history_from, AreSoundOrigins, HaveAllLanded}

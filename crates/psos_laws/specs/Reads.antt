@@ -6,13 +6,13 @@ use Rattle.psos_words.specs.Guard.{has_bit}
 use Rattle.psos_calls.specs.declared.right.Right.{Right}
 use Rattle.psos_calls.specs.declared.right.Right.TheVariants.{Window}
 use Rattle.psos_calls.specs.declared.win_row.WinRow.{WinRow}
-use Rattle.psos_calls.specs.Rights.{has}
-use Rattle.psos_calls.specs.User.{User}
-use Rattle.psos_calls.specs.Plan.{uid}
+use Rattle.psos_calls.specs.Language.Rights.{has}
+use Rattle.psos_calls.specs.Language.User.{User}
+use Rattle.psos_calls.specs.Language.Capabilities.{uid}
 use Rattle.psos_model.specs.declared.place.Place.{Place}
 use Rattle.psos_model.specs.declared.place.Place.TheVariants.{SegWord, DirName, BoxAt, Link, ImplOf}
 use Rattle.psos_model.specs.Flat.{Flat, Object}
-use Rattle.psos_model.specs.Places.{cap_at, is_own, right_of}
+use Rattle.psos_model.specs.Flat.Places.{cap_at, is_own, right_of}
 
 -- an identifier leads to a segment's words also as a window over it, and to an object's representation as the object's type
 abbrev pub Leads : Flat → ℕ → Place → Type 0

@@ -4,12 +4,12 @@ use Rattle.psos_table.specs.Table.{at}
 use Rattle.psos_caps.specs.Capability.{Capability}
 use Rattle.psos_calls.specs.declared.right.Right.TheVariants.{Impl}
 use Rattle.psos_calls.specs.declared.win_row.WinRow.{WinRow}
-use Rattle.psos_calls.specs.Plan.{uid}
+use Rattle.psos_calls.specs.Language.Capabilities.{uid}
 use Rattle.psos_model.specs.declared.place.Place.{Place}
 use Rattle.psos_model.specs.declared.place.Place.TheVariants.{ImplOf}
 use Rattle.psos_model.specs.Flat.{Flat, Object, Directory}
-use Rattle.psos_model.specs.Places.{cap_at}
-use Rattle.psos_model.specs.Outcome.{Source}
+use Rattle.psos_model.specs.Flat.Places.{cap_at}
+use Rattle.psos_model.specs.Answer.Outcomes.{Source}
 use Rattle.psos_laws.specs.Landings.{found}
 use Rattle.psos_laws.specs.Reads.{HasRight, MayWindow}
 use Rattle.psos_laws.specs.When.{WhenFound, WhenTrue}

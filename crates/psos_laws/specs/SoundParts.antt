@@ -7,20 +7,20 @@ use Rattle.psos_words.specs.declared.word.Word.{Word}
 use Rattle.psos_calls.specs.declared.kind.Kind.{Kind}
 use Rattle.psos_calls.specs.declared.win_row.WinRow.{WinRow}
 use Rattle.psos_calls.specs.declared.code_row.CodeRow.{CodeRow}
-use Rattle.psos_calls.specs.Script.{Script}
-use Rattle.psos_calls.specs.User.{User}
-use Rattle.psos_calls.specs.Plan.{uid}
+use Rattle.psos_calls.specs.Language.Script.{Script}
+use Rattle.psos_calls.specs.Language.User.{User}
+use Rattle.psos_calls.specs.Language.Capabilities.{uid}
 use Rattle.psos_model.specs.declared.place.Place.{Place}
 use Rattle.psos_model.specs.declared.place.Place.TheVariants.{ImplOf}
 use Rattle.psos_model.specs.Flat.{Flat, Segment, Object, Directory}
-use Rattle.psos_model.specs.Places.{cap_at}
-use Rattle.psos_model.specs.Boot.{process_of, home_of, home_rep_of}
-use Rattle.psos_model.specs.Guarded.{IsGuarded}
-use Rattle.psos_model.specs.Kept.{IsKept}
-use Rattle.psos_model.specs.Roles.{Role, IsUserObject}
-use Rattle.psos_model.specs.Roles as roles
-use Rattle.psos_model.specs.SoundRows.{IsSoundSegment, IsSoundWindow, IsSoundObject, IsSoundDirectory, IsSoundProcess, IsSoundCode}
-use Rattle.psos_model.specs.SoundUser.{IsSoundUser}
+use Rattle.psos_model.specs.Flat.Places.{cap_at}
+use Rattle.psos_model.specs.Flat.Boot.{process_of, home_of, home_rep_of}
+use Rattle.psos_model.specs.Sound.Guarded.{IsGuarded}
+use Rattle.psos_model.specs.Sound.Kept.{IsKept}
+use Rattle.psos_model.specs.Sound.Roles.{Role, IsUserObject}
+use Rattle.psos_model.specs.Sound.Roles as roles
+use Rattle.psos_model.specs.Sound.Rows.{IsSoundSegment, IsSoundWindow, IsSoundObject, IsSoundDirectory, IsSoundProcess, IsSoundCode}
+use Rattle.psos_model.specs.Sound.Users.{IsSoundUser}
 use Rattle.psos_model.specs.Sound.{IsFromBoot}
 
 -- the users' own parts

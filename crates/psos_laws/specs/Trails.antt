@@ -4,8 +4,8 @@ use Rattle.psos_caps.specs.Capability.{Capability}
 use Rattle.psos_words.specs.Guard.{has_bit}
 use Rattle.psos_model.specs.declared.place.Place.{Place}
 use Rattle.psos_model.specs.Flat.{Flat}
-use Rattle.psos_model.specs.Places.{cap_at, is_own}
-use Rattle.psos_model.specs.Outcome.{Source}
+use Rattle.psos_model.specs.Flat.Places.{cap_at, is_own}
+use Rattle.psos_model.specs.Answer.Outcomes.{Source}
 use Rattle.psos_laws.specs.Landings.{found}
 use Rattle.psos_laws.specs.When.{WhenFound, WhenTrue}
 use Rattle.psos_laws.specs.History.{Event}

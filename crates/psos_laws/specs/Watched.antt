@@ -1,10 +1,10 @@
 -- The flat state of a run with the order that led to it. States docs/promises.md, "Runs".
 use Rattle.std.specs.Prelude.{◌≡◌, ℕ, List}
 use Rattle.psos_calls.specs.declared.line.Line.{Line}
-use Rattle.psos_calls.specs.Script.{Script, IsWellFormed}
+use Rattle.psos_calls.specs.Language.Script.{Script, IsWellFormed}
 use Rattle.psos_model.specs.Flat.{Flat}
 use Rattle.psos_model.specs.Answer.{Answered}
-use Rattle.psos_model.specs.Boot.{boot}
+use Rattle.psos_model.specs.Flat.Boot.{boot}
 use Rattle.psos_model.specs.Run.{IsLegalFrom, run}
 use Rattle.psos_laws.specs.declared.watched.Watched as state
 use Rattle.psos_laws.specs.History.{history}

@@ -1,6 +1,6 @@
 // A word that came to a place.
 ghost use Rattle.std.specs.Prelude.{◌≡◌, ◌<◌, ◌+◌, ◌^◌, ◌==◌};
-ghost use Rattle.psos_model.specs.Places.{same_place};
+ghost use Rattle.psos_model.specs.Flat.Places.{same_place};
 ghost use Rattle.psos_laws.specs.Arrivals.{raised};
 
 use psos_model::{Place, Source};

@@ -4,12 +4,12 @@ ghost use Rattle.std.specs.Vec.{vec_len, vec_capacity};
 ghost use Rattle.psos_table.specs.Table.{at};
 ghost use Rattle.psos_words.specs.declared.word.Word.{Word as WordValue};
 ghost use Rattle.psos_words.specs.Words.{word_at};
-ghost use Rattle.psos_calls.specs.Script.{IsWellFormed};
-ghost use Rattle.psos_calls.specs.User.{here};
-ghost use Rattle.psos_calls.specs.Tests.{if_there};
+ghost use Rattle.psos_calls.specs.Language.Script.{IsWellFormed};
+ghost use Rattle.psos_calls.specs.Language.User.{here};
+ghost use Rattle.psos_calls.specs.Language.Tests.{if_there};
 ghost use Rattle.psos_model.specs.declared.place.Place.TheVariants.{FrameReg};
-ghost use Rattle.psos_model.specs.CanStep.{CanStep};
-ghost use Rattle.psos_model.specs.Places.{reg_place as place_of_reg};
+ghost use Rattle.psos_model.specs.Answer.CanStep.{CanStep};
+ghost use Rattle.psos_model.specs.Flat.Places.{reg_place as place_of_reg};
 ghost use Rattle.psos_laws.specs.Landings.{change_puts, effect_puts, passed};
 ghost use Rattle.psos_laws.specs.Arrivals.{comes, came_by, came_in, drawn_by as drawn_from, opened_by as opened_from, IsComing};
 

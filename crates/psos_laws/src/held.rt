@@ -1,7 +1,7 @@
 // The capability at a place.
 ghost use Rattle.std.specs.Prelude.{◌≡◌, ◌<◌, length};
 ghost use Rattle.psos_model.specs.declared.place.Place.TheVariants.{Reg, FrameReg, PathAt, SegWord, DirName, BoxAt};
-ghost use Rattle.psos_model.specs.Places.{cap_in as cap_of, cap_at as cap_there};
+ghost use Rattle.psos_model.specs.Flat.Places.{cap_in as cap_of, cap_at as cap_there};
 ghost use Rattle.psos_laws.specs.Arrivals.{AreCallers, AreFull};
 
 use psos_caps::{Cap, Uid};

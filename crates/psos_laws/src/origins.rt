@@ -4,9 +4,9 @@ ghost use Rattle.std.specs.Vec.{vec_len, vec_capacity};
 ghost use Rattle.psos_laws.specs.History.{way_by as way_from, origin_by as origin_from};
 ghost use Rattle.psos_table.specs.Table.{at};
 ghost use Rattle.psos_words.specs.declared.word.Word.{Word as WordValue};
-ghost use Rattle.psos_calls.specs.Script.{IsWellFormed};
-ghost use Rattle.psos_calls.specs.User.{User};
-ghost use Rattle.psos_model.specs.CanStep.{CanStep};
+ghost use Rattle.psos_calls.specs.Language.Script.{IsWellFormed};
+ghost use Rattle.psos_calls.specs.Language.User.{User};
+ghost use Rattle.psos_model.specs.Answer.CanStep.{CanStep};
 ghost use Rattle.psos_laws.specs.Arrivals.{told, came_out, IsComing, IsKept};
 
 use crate::arrival::Arrival;

@@ -1,6 +1,6 @@
 // Laws of sound states: what an answer, or a run, leaves.
 ghost use Rattle.std.specs.Prelude.{ℕ};
-ghost use Rattle.psos_calls.specs.Script.{Script, IsWellFormed};
+ghost use Rattle.psos_calls.specs.Language.Script.{Script, IsWellFormed};
 ghost use Rattle.psos_model.specs.Flat.{Flat};
 ghost use Rattle.psos_model.specs.Answer.{answer};
 ghost use Rattle.psos_model.specs.Laws.{AnswersKeepSound, RunsKeepSound};

@@ -1,9 +1,9 @@
 // Laws of sound states and starts.
 ghost use Rattle.std.specs.Prelude.{ℕ, ◌+◌, ◌<◌, ◌^◌, IsTrue};
-ghost use Rattle.psos_calls.specs.Script.{Script, IsWellFormed};
+ghost use Rattle.psos_calls.specs.Language.Script.{Script, IsWellFormed};
 ghost use Rattle.psos_model.specs.Flat.{Flat};
 ghost use Rattle.psos_model.specs.Answer.{answer};
-ghost use Rattle.psos_model.specs.CanStep.{CanStep};
+ghost use Rattle.psos_model.specs.Answer.CanStep.{CanStep};
 ghost use Rattle.psos_model.specs.Run.{has_left};
 ghost use Rattle.psos_model.specs.Laws.{BootIsStart};
 ghost use Rattle.psos_model.specs.Sound.{IsSound};

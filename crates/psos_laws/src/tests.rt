@@ -1,7 +1,7 @@
 // A run of two users.
 ghost use Rattle.std.specs.Prelude.{◌≡◌, IfOk, length};
-ghost use Rattle.psos_calls.specs.Request.{InRange};
-ghost use Rattle.psos_calls.specs.Script.{IsUserScript, IsWellFormed};
+ghost use Rattle.psos_calls.specs.Language.Request.{InRange};
+ghost use Rattle.psos_calls.specs.Language.Script.{IsUserScript, IsWellFormed};
 ghost use Rattle.psos_laws.specs.Watched.{script_of, IsWatched};
 
 use crate::{Origin, Watched, Way};

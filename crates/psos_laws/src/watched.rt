@@ -1,12 +1,12 @@
 // The flat state of a run, with the order that led to it.
 ghost use Rattle.std.specs.Prelude.{◌≡◌, ℕ, [], ◌∷◌, ◌++◌, length, IsTrue, IfOk, OnOk, OnErr};
 ghost use Rattle.psos_text.specs.declared.name.Name.{Name};
-ghost use Rattle.psos_calls.specs.Script.{IsWellFormed};
+ghost use Rattle.psos_calls.specs.Language.Script.{IsWellFormed};
 ghost use Rattle.psos_model.specs.Answer.{answer};
-ghost use Rattle.psos_model.specs.Boot.{boot};
+ghost use Rattle.psos_model.specs.Flat.Boot.{boot};
 ghost use Rattle.psos_model.specs.Run.{run, has_left};
-ghost use Rattle.psos_model.specs.Guarded.{IsGuarded};
-ghost use Rattle.psos_model.specs.Kept.{IsKept};
+ghost use Rattle.psos_model.specs.Sound.Guarded.{IsGuarded};
+ghost use Rattle.psos_model.specs.Sound.Kept.{IsKept};
 ghost use Rattle.psos_model.specs.Sound.{IsSound};
 ghost use Rattle.psos_laws.specs.History.{history, origin};
 ghost use Rattle.psos_laws.specs.Trails.{IsConfined};

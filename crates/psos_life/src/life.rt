@@ -1,7 +1,7 @@
 // User objects.
 ghost use Rattle.std.specs.Prelude.{◌≡◌, IfOk, IfErr, OnOk, OnErr, IsTrue, alloc_error};
 ghost use Rattle.std.specs.FinMap.{empty};
-ghost use Rattle.psos_calls.specs.Level11.{room, act11, Can11};
+ghost use Rattle.psos_calls.specs.Levels.Level11.{room, act11, Can11};
 ghost use Rattle.psos_life.specs.Rows.{adds_row};
 
 use psos_calls::{Kind, LevelAnswer, LevelCall, LevelFault, Refusal, Tab, limits};
@@ -19,7 +19,7 @@ pub struct Life {
 impl Model for Life {
     ghost use Rattle.std.specs.Coded.{coded_ℕ};
     ghost use Rattle.std.specs.FinMap as map;
-    ghost use Rattle.psos_calls.specs.Level11.{LifeState};
+    ghost use Rattle.psos_calls.specs.Levels.Level11.{LifeState};
     ghost use Rattle.psos_calls.specs.contracts.kind.Kind as kind;
 
     ghost Value = { LifeState };

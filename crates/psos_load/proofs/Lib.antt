@@ -1,5 +1,5 @@
-pub mod Left
+pub mod LinesLeft
 pub mod Words
-pub mod Spelled
+pub mod LineTexts
 pub mod Requests
 pub mod Users

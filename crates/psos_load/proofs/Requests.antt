@@ -9,14 +9,14 @@ use Rattle.psos_text.specs.Name.{is_name, name_text, name_of}
 use Rattle.psos_text.proofs.NameLaws.{text-name_of, IsName-name_of}
 use Rattle.psos_calls.specs.declared.request.Request.{Request}
 use Rattle.psos_calls.specs.declared.request.Request.TheVariants.{Mint, Restrict, Set, Read, Write, Lookup, MkSeg, Delete}
-use Rattle.psos_calls.specs.Request.{InRange}
-use Rattle.psos_model.specs.Operands.{Text}
-use Rattle.psos_model.specs.RequestWords.{request_words}
-use Rattle.psos_model.specs.Spelling.{requests_lines}
-use Rattle.psos_model.specs.Load.{line_of, load_line, load_lines}
+use Rattle.psos_calls.specs.Language.Request.{InRange}
+use Rattle.psos_model.specs.Text.Operands.{Text}
+use Rattle.psos_model.specs.Text.RequestWords.{request_words}
+use Rattle.psos_model.specs.Text.Spelling.{requests_lines}
+use Rattle.psos_model.specs.Text.Load.{line_of, load_line, load_lines}
 use Rattle.psos_load.specs.Made.{made_request, made_requests}
 use Rattle.psos_load.proofs.Words.{is_visible, is_word, number_is_word, numbered_is_word, visible_of_parts, both, name_is_named}
-use Rattle.psos_load.proofs.Spelled.{IsLineOf, AreLinesOf, one_more_line, lines_along, line_is_short}
+use Rattle.psos_load.proofs.LineTexts.{IsLineOf, AreLinesOf, one_more_line, lines_along, line_is_short}
 
 -- ---- one line
 

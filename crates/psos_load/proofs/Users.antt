@@ -4,14 +4,14 @@ use Rattle.std.specs.Prelude.{codes}
 use Rattle.std.specs.List.{flat_map, AllByRecursion}
 use Rattle.std.proofs.lemmas.Fmt.{decimal_injective}
 use Rattle.psos_text.specs.Draws.{first_draw, draws}
-use Rattle.psos_calls.specs.Script.{UserScript, AreDistinct, IsUserScript}
-use Rattle.psos_model.specs.Operands.{Text}
-use Rattle.psos_model.specs.Spelling.{requests_lines, user_lines}
-use Rattle.psos_model.specs.Load.{line_of, load_lines, load_users, load_text}
-use Rattle.psos_model.specs.Spelling.{IsScript}
+use Rattle.psos_calls.specs.Language.Script.{UserScript, AreDistinct, IsUserScript}
+use Rattle.psos_model.specs.Text.Operands.{Text}
+use Rattle.psos_model.specs.Text.Spelling.{requests_lines, user_lines}
+use Rattle.psos_model.specs.Text.Load.{line_of, load_lines, load_users, load_text}
+use Rattle.psos_model.specs.Text.Spelling.{IsScript}
 use Rattle.psos_load.specs.Made.{made_requests, made_users, made_script}
 use Rattle.psos_load.proofs.Words.{numbered_is_word, name_is_named}
-use Rattle.psos_load.proofs.Spelled.{IsLineOf, AreLinesOf, no_lines, one_more_line, lines_along, line_is_short}
+use Rattle.psos_load.proofs.LineTexts.{IsLineOf, AreLinesOf, no_lines, one_more_line, lines_along, line_is_short}
 use Rattle.psos_load.proofs.Requests.{draws_are_small, requests_are_spelled, lines_are_short, requests_are_in_range, requests_are_so_many}
 
 abbrev user_name : ℕ → Text

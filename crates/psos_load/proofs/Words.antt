@@ -7,8 +7,8 @@ use Rattle.psos_text.specs.Lines.{words_of, is_empty}
 use Rattle.psos_text.specs.Number.{is_digit}
 use Rattle.psos_text.specs.Name.{is_name_byte, is_name}
 use Rattle.psos_text.proofs.NumberLaws.{decimal_is_numeral}
-use Rattle.psos_model.specs.Operands.{Text}
-use Rattle.psos_model.specs.Spelling.{is_printable, is_line}
+use Rattle.psos_model.specs.Text.Operands.{Text}
+use Rattle.psos_model.specs.Text.Spelling.{is_printable, is_line}
 
 -- a byte that is printed and no space
 abbrev pub is_visible : ℕ → Bool

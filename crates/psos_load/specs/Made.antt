@@ -4,7 +4,7 @@ use Rattle.psos_text.specs.Draws.{first_draw, next_draw, draws}
 use Rattle.psos_text.specs.Name.{name_of}
 use Rattle.psos_calls.specs.declared.request.Request.{Request}
 use Rattle.psos_calls.specs.declared.request.Request.TheVariants.{Mint, Restrict, Set, Read, Write, Lookup, MkSeg, Delete}
-use Rattle.psos_calls.specs.Script.{UserScript, Script}
+use Rattle.psos_calls.specs.Language.Script.{UserScript, Script}
 
 -- the request of a draw x, by its low three bits; w is a word of 64, k one of twenty names
 abbrev pub made_request : ℕ → ℕ → ℕ → Request

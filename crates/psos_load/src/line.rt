@@ -1,6 +1,6 @@
 // A request line, by a value that was drawn.
 ghost use Rattle.std.specs.Prelude.{◌≡◌, ◌++◌, ◌/◌, ◌%◌, decimal, OnOk};
-ghost use Rattle.psos_model.specs.Load.{load_line};
+ghost use Rattle.psos_model.specs.Text.Load.{load_line};
 
 use psos_text::{put_hex4, put_number};
 use std::alloc::{AllocError, Global};

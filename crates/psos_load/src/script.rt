@@ -1,8 +1,8 @@
 // The users of a script, each with its request lines.
 ghost use Rattle.std.specs.Prelude.{◌≡◌, ◌≤◌, [], ◌∷◌, ◌++◌, codes, decimal, IfOk, OnOk};
 ghost use Rattle.psos_text.specs.Draws.{draws};
-ghost use Rattle.psos_model.specs.Load.{line_of, load_lines, load_text};
-ghost use Rattle.psos_model.specs.Spelling.{IsScript};
+ghost use Rattle.psos_model.specs.Text.Load.{line_of, load_lines, load_text};
+ghost use Rattle.psos_model.specs.Text.Spelling.{IsScript};
 ghost use Rattle.psos_load.specs.Made.{made_script};
 
 use crate::line::put_line;

@@ -1,5 +1,5 @@
 -- The tables of boot: a base, and one row for each user. States docs/system.md, "Boot", and docs/levels.md, "Pages and slots".
-use Rattle.std.proofs.Common.{◌≡◌, ℕ, suc, ◌+◌, ◌*◌, ◌<◌, ◌≤◌, Bool, true, false, cond, eqb, List, [], ◌∷◌, length, Option, Some, None, refl, sym, ap, subst, ◌∙◌, inl, inr, arith}
+use Rattle.std.proofs.Common.{◌≡◌, ℕ, suc, ◌+◌, ◌*◌, ◌<◌, ◌≤◌, Bool, true, false, cond, eqb, List, [], ◌∷◌, length, Some, None, refl, sym, ap, subst, ◌∙◌, inl, inr, arith}
 use Rattle.std.specs.FinMap.{empty}
 use Rattle.std.specs.Option.{option_map}
 use Rattle.std.proofs.lemmas.Bool.{cases_eq}
@@ -8,12 +8,12 @@ use Rattle.psos_table.proofs.Tables.{at-put, at-put_here, at-put_apart, row_put,
 use Rattle.psos_calls.specs.declared.kind.Kind.TheVariants as kinds
 use Rattle.psos_calls.specs.declared.seg_row.SegRow.{SegRow}
 use Rattle.psos_calls.specs.declared.obj_row.ObjRow.{ObjRow}
-use Rattle.psos_calls.specs.Script.{UserScript}
+use Rattle.psos_calls.specs.Language.Script.{UserScript}
 use Rattle.psos_caps.specs.Capability.{full}
 use Rattle.psos_model.specs.Flat.{Directory}
-use Rattle.psos_model.specs.Changes.{new_segment}
-use Rattle.psos_model.specs.Boot.{guard_1, home_of, home_rep_of, home_names, process_of, scratch_of, boot_segments, boot_life, boot_boxes, boot_dirs}
-use Rattle.psos_model.specs.BootLevels.{rep_row, scratch_row, home_slot, boot_reps, boot_scratch, boot_objects, boot_guards}
+use Rattle.psos_model.specs.Flat.Changes.{new_segment}
+use Rattle.psos_model.specs.Flat.Boot.{guard_1, home_of, home_rep_of, home_names, process_of, scratch_of, boot_segments, boot_life, boot_boxes, boot_dirs}
+use Rattle.psos_model.specs.Replay.BootLevels.{rep_row, scratch_row, home_slot, boot_reps, boot_scratch, boot_objects, boot_guards}
 
 module _ {X : Type 0} (base : Table X) (first : ℕ) (val : ℕ → X) where
   -- user i's row is under first + 4 * i

@@ -4,7 +4,7 @@ use Rattle.std.specs.Cmp.{IsTotalOrder}
 use Rattle.std.specs.FinMap.{IsAntisymmetric, nat_cmp-IsAntisymmetric, slice_cmp-IsAntisymmetric}
 use Rattle.std.proofs.lemmas.Cmp.{nat_list_cmp_total}
 use Rattle.psos_text.specs.declared.name.Name.{Name}
-use Rattle.psos_calls.specs.Names.{name_cmp}
+use Rattle.psos_calls.specs.Language.Names.{name_cmp}
 
 pub name_cmp_total : IsTotalOrder name_cmp
 name_cmp_total = record {

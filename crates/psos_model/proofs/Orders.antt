@@ -2,12 +2,12 @@
 use Rattle.std.proofs.Common.{◌≡◌, ℕ, suc, List, [], ◌∷◌, ◌++◌, length, refl, ap}
 use Rattle.std.specs.Prelude.{IsTrue}
 use Rattle.psos_calls.specs.declared.entry.Entry.{Entry}
-use Rattle.psos_calls.specs.Script.{Script}
+use Rattle.psos_calls.specs.Language.Script.{Script}
 use Rattle.psos_model.specs.Flat.{Flat}
 use Rattle.psos_model.specs.Answer.{Answered, answer}
 use Rattle.psos_model.specs.Run.{has_left, run_from, answers_from, IsLegalFrom}
 use Rattle.psos_model.specs.Replay.{System, replay_step, replay_from, entries_from, order_of}
-use Rattle.psos_model.specs.SerialOrder.{IsFirst, IsSerialFrom}
+use Rattle.psos_model.specs.Run.SerialOrder.{IsFirst, IsSerialFrom}
 
 -- ---- runs
 

@@ -1,20 +1,26 @@
 -- What each request answers and changes. States docs/requests.md, "Answers".
+pub mod Outcomes
+pub mod Segments
+pub mod Directories
+pub mod Objects
+pub mod Processes
+pub mod CanStep
 use Rattle.std.specs.Prelude.{ℕ, slice_get, slice_set, Option, Some, None}
 use Rattle.std.specs.Option.{option_map}
 use Rattle.psos_calls.specs.declared.request.Request.{Request}
 use Rattle.psos_calls.specs.declared.request.Request.TheVariants.{Mint, Restrict, Set, Move, Add, Read, Write, Window, Length, Lookup, Bind, Unbind, List, Impl, MkSeg, MkDir, MkType, MkObj, MkCode, Delete, Send, Recv, Call, Path, Find}
 use Rattle.psos_calls.specs.declared.reply.Reply.{Reply}
 use Rattle.psos_calls.specs.declared.reply.Reply.TheVariants.{Fine}
-use Rattle.psos_calls.specs.Script.{Script}
-use Rattle.psos_calls.specs.User.{User, next_request, place_of, after}
-use Rattle.psos_calls.specs.Tests.{if_there}
+use Rattle.psos_calls.specs.Language.Script.{Script}
+use Rattle.psos_calls.specs.Language.User.{User, next_request, place_of, after}
+use Rattle.psos_calls.specs.Language.Tests.{if_there}
 use Rattle.psos_model.specs.Flat.{Flat}
-use Rattle.psos_model.specs.Changes.{changed_all}
-use Rattle.psos_model.specs.Outcome.{Outcome}
-use Rattle.psos_model.specs.AnswerSeg.{answer_mint, answer_restrict, answer_set, answer_move, answer_add, answer_read, answer_write, answer_window, answer_length}
-use Rattle.psos_model.specs.AnswerDir.{answer_lookup, answer_bind, answer_unbind, answer_list, answer_path, answer_find}
-use Rattle.psos_model.specs.AnswerLife.{answer_impl, answer_mkseg, answer_mkdir, answer_mktype, answer_mkobj, answer_mkcode, answer_delete}
-use Rattle.psos_model.specs.AnswerProc.{answer_send, answer_recv, answer_call}
+use Rattle.psos_model.specs.Flat.Changes.{changed_all}
+use Rattle.psos_model.specs.Answer.Outcomes.{Outcome}
+use Rattle.psos_model.specs.Answer.Segments.{answer_mint, answer_restrict, answer_set, answer_move, answer_add, answer_read, answer_write, answer_window, answer_length}
+use Rattle.psos_model.specs.Answer.Directories.{answer_lookup, answer_bind, answer_unbind, answer_list, answer_path, answer_find}
+use Rattle.psos_model.specs.Answer.Objects.{answer_impl, answer_mkseg, answer_mkdir, answer_mktype, answer_mkobj, answer_mkcode, answer_delete}
+use Rattle.psos_model.specs.Answer.Processes.{answer_send, answer_recv, answer_call}
 
 -- the outcome of a request of user x
 abbrev pub outcome : Flat → User → Request → Outcome

@@ -1,14 +1,22 @@
 -- The flat state: the system as its users see it. States docs/system.md, "The flat state".
+pub mod Rows
+pub mod Codes
+pub mod Places
+pub mod Changes
+pub mod Safe
+pub mod Undo
+pub mod Within
+pub mod Boot
 use Rattle.std.specs.Prelude.{ℕ, List, [], length, Option}
 use Rattle.std.specs.FinMap.{FinMap, get}
 use Rattle.std.specs.Option.{option_map}
 use Rattle.psos_table.specs.Table.{at}
 use Rattle.psos_text.specs.declared.name.Name.{Name}
 use Rattle.psos_words.specs.declared.word.Word.{Word}
-use Rattle.psos_calls.specs.Names.{name_cmp}
-use Rattle.psos_calls.specs.Tests.{if_there}
-use Rattle.psos_calls.specs.Level8.{Shape, View, view_in}
-use Rattle.psos_model.specs.Rows as rows
+use Rattle.psos_calls.specs.Language.Names.{name_cmp}
+use Rattle.psos_calls.specs.Language.Tests.{if_there}
+use Rattle.psos_calls.specs.Language.Views.{Shape, View, view_in}
+use Rattle.psos_model.specs.Flat.Rows as rows
 use Rattle.psos_model.specs.declared.object.Object as object
 use Rattle.psos_model.specs.declared.named.Named as entry
 use Rattle.psos_model.specs.declared.directory.Directory as directory

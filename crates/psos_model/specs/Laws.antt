@@ -4,14 +4,14 @@ use Rattle.psos_calls.specs.declared.request.Request.{Request}
 use Rattle.psos_calls.specs.declared.refusal.Refusal.{Refusal}
 use Rattle.psos_calls.specs.declared.reply.Reply.TheVariants.{No}
 use Rattle.psos_calls.specs.declared.effect.Effect.TheVariants.{Nothing}
-use Rattle.psos_calls.specs.Script.{Script, IsWellFormed, requests_of, user_script}
-use Rattle.psos_calls.specs.User.{User}
+use Rattle.psos_calls.specs.Language.Script.{Script, IsWellFormed, requests_of, user_script}
+use Rattle.psos_calls.specs.Language.User.{User}
 use Rattle.psos_model.specs.Flat.{Flat}
 use Rattle.psos_model.specs.Answer.{Answered, outcome, answer}
-use Rattle.psos_model.specs.Boot.{boot}
+use Rattle.psos_model.specs.Flat.Boot.{boot}
 use Rattle.psos_model.specs.Run.{IsLegalFrom, IsComplete, run_from, answers}
 use Rattle.psos_model.specs.Sound.{IsSound, IsStart}
-use Rattle.psos_model.specs.Turns.{IsTurnsOrder}
+use Rattle.psos_model.specs.Events.Turns.{IsTurnsOrder}
 
 -- ---- one answer
 

@@ -1,37 +1,16 @@
-pub mod Rows
-pub mod Codes
+-- Flat: the flat state, its places, its changes, and boot.
 pub mod Flat
-pub mod Places
-pub mod Changes
-pub mod Safe
-pub mod Undo
-pub mod Within
-pub mod Outcome
-pub mod AnswerSeg
-pub mod AnswerDir
-pub mod AnswerLife
-pub mod AnswerProc
+-- Answer: the outcome of each request, and the state and reply after it.
 pub mod Answer
-pub mod Boot
-pub mod BootLevels
-pub mod CanStep
+-- Run: answers one after another, and their order.
 pub mod Run
-pub mod Replay
-pub mod StandsFor
-pub mod Transcript
-pub mod Output
-pub mod Operands
-pub mod RequestWords
-pub mod Spelling
-pub mod Guarded
-pub mod Kept
-pub mod Roles
-pub mod SoundRows
-pub mod SoundUser
+-- Text: how a script is spelled, and how a run is printed. Nothing up to here knows a level or a plan.
+pub mod Text
+-- Sound: what holds of every flat state that a run reaches.
 pub mod Sound
-pub mod Core
-pub mod Serial
-pub mod SerialOrder
-pub mod Turns
-pub mod Load
+-- Replay: plans one after another over the levels, the levels at boot, and when levels stand for a flat state.
+pub mod Replay
+-- Events: takes, calls and closes of users that go beside one another, and turns.
+pub mod Events
+-- Laws: what is proved of answers and runs.
 pub mod Laws

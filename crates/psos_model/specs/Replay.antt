@@ -1,16 +1,18 @@
 -- The levels under a run, by the plans of its requests. States docs/promises.md, "Replays".
+pub mod BootLevels
+pub mod StandsFor
 use Rattle.std.specs.Prelude.{◌≡◌, ℕ, List, [], ◌∷◌, map, slice_get, slice_set, Option, Some, None}
 use Rattle.psos_calls.specs.declared.request.Request.{Request}
 use Rattle.psos_calls.specs.declared.reply.Reply.TheVariants.{Fine}
 use Rattle.psos_calls.specs.declared.entry.Entry.{Entry}
-use Rattle.psos_calls.specs.Script.{Script}
-use Rattle.psos_calls.specs.User.{User, next_request, place_of, after}
+use Rattle.psos_calls.specs.Language.Script.{Script}
+use Rattle.psos_calls.specs.Language.User.{User, next_request, place_of, after}
 use Rattle.psos_calls.specs.Levels.{Levels}
 use Rattle.psos_calls.specs.Plan.{run_plan}
-use Rattle.psos_calls.specs.PlanOf.{plan_of}
-use Rattle.psos_calls.specs.Tests.{if_there}
-use Rattle.psos_model.specs.Boot.{boot_users}
-use Rattle.psos_model.specs.BootLevels.{boot_levels}
+use Rattle.psos_calls.specs.Plan.Requests.{plan_of}
+use Rattle.psos_calls.specs.Language.Tests.{if_there}
+use Rattle.psos_model.specs.Flat.Boot.{boot_users}
+use Rattle.psos_model.specs.Replay.BootLevels.{boot_levels}
 use Rattle.psos_model.specs.Answer.{Answered}
 use Rattle.psos_model.specs.Run.{answers}
 

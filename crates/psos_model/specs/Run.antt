@@ -1,12 +1,13 @@
 -- Runs of a script, and which orders of its users they may take. States docs/promises.md, "Runs".
+pub mod SerialOrder
 use Rattle.std.specs.Prelude.{◌≡◌, ℕ, ◌+◌, ◌-◌, ◌==◌, ◌||◌, Bool, true, false, List, [], ◌∷◌, length, slice_get, Option, Some, None, IsTrue, if◌then◌else◌, nat_lt, min, option_map}
 use Rattle.psos_calls.specs.declared.request.Request.{Request}
 use Rattle.psos_calls.specs.declared.frame.Frame.{Frame}
-use Rattle.psos_calls.specs.Script.{Script, user_script}
-use Rattle.psos_calls.specs.User.{User}
-use Rattle.psos_calls.specs.Tests.{if_there}
+use Rattle.psos_calls.specs.Language.Script.{Script, user_script}
+use Rattle.psos_calls.specs.Language.User.{User}
+use Rattle.psos_calls.specs.Language.Tests.{if_there}
 use Rattle.psos_model.specs.Flat.{Flat}
-use Rattle.psos_model.specs.Boot.{boot}
+use Rattle.psos_model.specs.Flat.Boot.{boot}
 use Rattle.psos_model.specs.Answer.{Answered, answer}
 
 -- ---- phases

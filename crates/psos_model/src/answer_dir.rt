@@ -1,13 +1,13 @@
 // Outcomes of directories and name spaces.
 ghost use Rattle.std.specs.Prelude.{◌≡◌, ◌<◌, ◌≤◌, [], length, drop, IfOk};
-ghost use Rattle.psos_calls.specs.User.{CanMake, User as UserValue};
+ghost use Rattle.psos_calls.specs.Language.User.{CanMake, User as UserValue};
 ghost use Rattle.psos_words.specs.declared.word.Word.TheVariants.{Cap as CapWord};
 ghost use Rattle.psos_calls.specs.declared.right.Right.TheVariants.{Lookup};
-ghost use Rattle.psos_calls.specs.Plan.{uid as uid_of};
+ghost use Rattle.psos_calls.specs.Language.Capabilities.{uid as uid_of};
 ghost use Rattle.psos_model.specs.declared.place.Place.TheVariants.{DirName};
-ghost use Rattle.psos_model.specs.Outcome.{gives, by};
-ghost use Rattle.psos_model.specs.AnswerDir.{answer_lookup, answer_bind, answer_unbind, answer_list, answer_path, answer_find, find_in};
-ghost use Rattle.psos_model.specs.Within.{found_in};
+ghost use Rattle.psos_model.specs.Answer.Outcomes.{gives, by};
+ghost use Rattle.psos_model.specs.Answer.Directories.{answer_lookup, answer_bind, answer_unbind, answer_list, answer_path, answer_find, find_in};
+ghost use Rattle.psos_model.specs.Flat.Within.{found_in};
 
 use crate::guards::{barred, has};
 use crate::outcome::{by, does, gives, own, refuse, reg_place};

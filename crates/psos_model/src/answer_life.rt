@@ -1,13 +1,13 @@
 // Outcomes of user objects.
 ghost use Rattle.std.specs.Prelude.{◌≡◌, ◌+◌, ◌<◌, ◌^◌, [], ◌∷◌, true};
-ghost use Rattle.psos_calls.specs.PlanLife.{guard_of};
-ghost use Rattle.psos_calls.specs.User.{CanMake, User as UserValue};
+ghost use Rattle.psos_calls.specs.Language.Stores.{guard_of};
+ghost use Rattle.psos_calls.specs.Language.User.{CanMake, User as UserValue};
 ghost use Rattle.psos_model.specs.declared.change.Change.TheVariants.{Fresh};
 ghost use Rattle.psos_model.specs.declared.outcome.Outcome.{Outcome as OutcomeValue};
-ghost use Rattle.psos_model.specs.Outcome.{make_in};
-ghost use Rattle.psos_model.specs.AnswerLife.{makes, drops, answer_impl, answer_mkseg, answer_mkdir, answer_mktype, answer_mkobj, answer_mkcode, answer_delete};
-ghost use Rattle.psos_model.specs.Safe.{is_making, is_sure};
-ghost use Rattle.psos_model.specs.Within.{unless};
+ghost use Rattle.psos_model.specs.Answer.Outcomes.{make_in};
+ghost use Rattle.psos_model.specs.Answer.Objects.{makes, drops, answer_impl, answer_mkseg, answer_mkdir, answer_mktype, answer_mkobj, answer_mkcode, answer_delete};
+ghost use Rattle.psos_model.specs.Flat.Safe.{is_making, is_sure};
+ghost use Rattle.psos_model.specs.Flat.Within.{unless};
 
 use crate::guards::{barred, has};
 use crate::issue::full;

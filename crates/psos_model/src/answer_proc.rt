@@ -1,7 +1,7 @@
 // Outcomes of processes and procedure records.
 ghost use Rattle.std.specs.Prelude.{◌≡◌, ◌<◌};
-ghost use Rattle.psos_calls.specs.User.{CanMake};
-ghost use Rattle.psos_model.specs.AnswerProc.{answer_send, answer_recv, answer_call};
+ghost use Rattle.psos_calls.specs.Language.User.{CanMake};
+ghost use Rattle.psos_model.specs.Answer.Processes.{answer_send, answer_recv, answer_call};
 
 use crate::guards::{barred, has};
 use crate::outcome::{by, does, gives, own, refuse, reg_place};

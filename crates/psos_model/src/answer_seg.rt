@@ -1,9 +1,9 @@
 // Outcomes of registers, segments and windows.
 ghost use Rattle.std.specs.Prelude.{◌≡◌, ◌+◌, ◌<◌, ◌≤◌, true};
-ghost use Rattle.psos_calls.specs.User.{User, CanMake};
-ghost use Rattle.psos_model.specs.AnswerSeg.{answer_mint, answer_restrict, answer_set, answer_move, answer_add, answer_read, answer_write, answer_window, answer_length};
-ghost use Rattle.psos_calls.specs.Level8.{fits_in, part_of};
-ghost use Rattle.psos_model.specs.Within.{IsWithin, as_view};
+ghost use Rattle.psos_calls.specs.Language.User.{User, CanMake};
+ghost use Rattle.psos_model.specs.Answer.Segments.{answer_mint, answer_restrict, answer_set, answer_move, answer_add, answer_read, answer_write, answer_window, answer_length};
+ghost use Rattle.psos_calls.specs.Language.Views.{fits_in, part_of};
+ghost use Rattle.psos_model.specs.Flat.Within.{IsWithin, as_view};
 
 use crate::guards::{barred, has};
 use crate::issue::{capability, full};

@@ -3,9 +3,9 @@ ghost use Rattle.std.specs.Prelude.{◌≡◌, ◌+◌, ◌<◌, ◌^◌, [], �
 ghost use Rattle.std.specs.FinMap.{empty};
 ghost use Rattle.std.specs.List.{list_all};
 ghost use Rattle.psos_model.specs.declared.change.Change.TheVariants.{Register, MakeObject, MakeDirectory, DropSegment};
-ghost use Rattle.psos_model.specs.Changes.{changed, changed_all, kept_entry};
-ghost use Rattle.psos_model.specs.Safe.{is_sure, is_making, is_told, is_apart, used, used_by};
-ghost use Rattle.psos_model.specs.Undo.{entry_at, first_entry, taken_back};
+ghost use Rattle.psos_model.specs.Flat.Changes.{changed, changed_all, kept_entry};
+ghost use Rattle.psos_model.specs.Flat.Safe.{is_sure, is_making, is_told, is_apart, used, used_by};
+ghost use Rattle.psos_model.specs.Flat.Undo.{entry_at, first_entry, taken_back};
 ghost use Rattle.psos_table.specs.Table.{has};
 
 use crate::edits::{EntryGone, FirstGone, NotOver, WordPut};

@@ -1,9 +1,9 @@
 // The flat state at boot.
 ghost use Rattle.std.specs.Prelude.{◌≡◌, ◌+◌, ◌<◌, ◌≤◌, [], ◌++◌, length, map, IfOk};
 ghost use Rattle.std.specs.List.{flat_map, AllByRecursion};
-ghost use Rattle.psos_calls.specs.Script.{IsWellFormed, requests_of};
-ghost use Rattle.psos_model.specs.Boot.{boot, boot_next, boot_segments, boot_dirs, boot_life, boot_boxes, boot_users, boot_user, boot_regs, scratch_name, home_names, root};
-ghost use Rattle.psos_model.specs.Within.{IsShort};
+ghost use Rattle.psos_calls.specs.Language.Script.{IsWellFormed, requests_of};
+ghost use Rattle.psos_model.specs.Flat.Boot.{boot, boot_next, boot_segments, boot_dirs, boot_life, boot_boxes, boot_users, boot_user, boot_regs, scratch_name, home_names, root};
+ghost use Rattle.psos_model.specs.Flat.Within.{IsShort};
 
 use crate::issue::{capability, full};
 use crate::{Directory, Flat, Mailbox, Named, NamesTable, Objects, Segment, Users};

@@ -1,7 +1,7 @@
 // What a request changes of what users share.
 ghost use Rattle.std.specs.Prelude.{◌≡◌, ◌≤◌, [], ◌∷◌, true};
 ghost use Rattle.psos_model.specs.declared.change.Change.TheVariants.{Fresh, Register};
-ghost use Rattle.psos_model.specs.Safe.{is_safe, is_sure, is_making, used_by};
+ghost use Rattle.psos_model.specs.Flat.Safe.{is_safe, is_sure, is_making, used_by};
 
 use crate::Change;
 use arrayvec::ArrayVec;
@@ -19,7 +19,7 @@ pub struct ChangeList {
 impl Model for ChangeList {
     ghost use Rattle.std.specs.Prelude.{List, ◌≡◌, ◌≤◌, true};
     ghost use Rattle.psos_model.specs.declared.change.Change.{Change};
-    ghost use Rattle.psos_model.specs.Safe.{is_safe, used_by};
+    ghost use Rattle.psos_model.specs.Flat.Safe.{is_safe, used_by};
 
     ghost Value = { List Change };
 

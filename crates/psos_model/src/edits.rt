@@ -1,7 +1,7 @@
 // Changes of rows in their places, which take no memory.
 ghost use Rattle.std.specs.Prelude.{slice_set, drop};
-ghost use Rattle.psos_calls.specs.Level8.{is_not_over};
-ghost use Rattle.psos_model.specs.Changes.{without_entry};
+ghost use Rattle.psos_calls.specs.Language.Views.{is_not_over};
+ghost use Rattle.psos_model.specs.Flat.Changes.{without_entry};
 
 use crate::{Directory, Mailbox, Segment};
 use psos_calls::WinRow;

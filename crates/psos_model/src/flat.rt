@@ -4,8 +4,8 @@ ghost use Rattle.std.specs.Option.{option_map};
 ghost use Rattle.psos_table.specs.Table.{at};
 ghost use Rattle.psos_words.specs.Words.{word_at};
 ghost use Rattle.psos_model.specs.Flat.{flat_view, words_of};
-ghost use Rattle.psos_model.specs.Places.{rep_cap};
-ghost use Rattle.psos_model.specs.Within.{IsWithin, as_view};
+ghost use Rattle.psos_model.specs.Flat.Places.{rep_cap};
+ghost use Rattle.psos_model.specs.Flat.Within.{IsWithin, as_view};
 
 use crate::issue::full;
 use crate::{Directory, FlatView, Mailbox, Objects, Segment, Users};

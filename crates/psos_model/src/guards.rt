@@ -1,7 +1,7 @@
 // Rights that are asked for, and guards of stores.
 ghost use Rattle.std.specs.Prelude.{◌≡◌, ◌<◌};
 ghost use Rattle.psos_words.specs.Guard.{has_bit, missing, barred};
-ghost use Rattle.psos_calls.specs.Rights.{has};
+ghost use Rattle.psos_calls.specs.Language.Rights.{has};
 
 use psos_calls::Right;
 use psos_caps::{Cap, Rights};

@@ -17,9 +17,9 @@ pub struct NamesTable {
 
 impl Model for NamesTable {
     ghost use Rattle.std.specs.FinMap as map;
-    ghost use Rattle.psos_calls.specs.Names.{name_cmp};
+    ghost use Rattle.psos_calls.specs.Language.Names.{name_cmp};
     ghost use Rattle.psos_model.specs.declared.named.Named.{Named};
-    ghost use Rattle.psos_model.specs.Codes.{name_code, named_code};
+    ghost use Rattle.psos_model.specs.Flat.Codes.{name_code, named_code};
 
     ghost Value = { map.FinMap name_cmp Named };
 

@@ -1,8 +1,8 @@
 // What a user's next request will do.
 ghost use Rattle.std.specs.Prelude.{◌≡◌, IfOk};
-ghost use Rattle.psos_calls.specs.Script.{IsWellFormed};
+ghost use Rattle.psos_calls.specs.Language.Script.{IsWellFormed};
 ghost use Rattle.psos_model.specs.Answer.{next_outcome};
-ghost use Rattle.psos_model.specs.CanStep.{CanStep};
+ghost use Rattle.psos_model.specs.Answer.CanStep.{CanStep};
 
 use crate::requests::outcome_of;
 use crate::{Flat, Outcome};

@@ -3,7 +3,7 @@ ghost use Rattle.std.specs.Prelude.{◌≡◌, ◌==◌, true, nat_lt, None, OnO
 ghost use Rattle.std.specs.FinMap.{empty};
 ghost use Rattle.psos_table.specs.Table.{at, put, without, kept, has, size};
 ghost use Rattle.psos_model.specs.declared.object.Object.{Object as ObjectRow};
-ghost use Rattle.psos_model.specs.Undo.{put_back};
+ghost use Rattle.psos_model.specs.Flat.Undo.{put_back};
 
 use crate::Object;
 use std::alloc::{AllocError, Global};
@@ -21,7 +21,7 @@ impl Model for Objects {
     ghost use Rattle.std.specs.FinMap as map;
     ghost use Rattle.std.specs.Coded.{coded_ℕ};
     ghost use Rattle.psos_model.specs.declared.object.Object.{Object};
-    ghost use Rattle.psos_model.specs.Codes.{object_code};
+    ghost use Rattle.psos_model.specs.Flat.Codes.{object_code};
 
     ghost Value = { map.FinMap nat_cmp Object };
 

@@ -1,8 +1,8 @@
 // What a request does.
 ghost use Rattle.std.specs.Prelude.{◌≡◌, [], Some, None};
-ghost use Rattle.psos_calls.specs.Plan.{uid as uid_of};
-ghost use Rattle.psos_model.specs.Places.{reg_place};
-ghost use Rattle.psos_model.specs.Outcome.{refuse, gives, does, by, own};
+ghost use Rattle.psos_calls.specs.Language.Capabilities.{uid as uid_of};
+ghost use Rattle.psos_model.specs.Flat.Places.{reg_place};
+ghost use Rattle.psos_model.specs.Answer.Outcomes.{refuse, gives, does, by, own};
 
 use crate::{ChangeList, Place, Source};
 use psos_calls::close::word_reply;

@@ -1,9 +1,9 @@
 // The outcome of a request.
 ghost use Rattle.std.specs.Prelude.{◌≡◌, ◌+◌, ◌<◌, ◌^◌, IfOk};
-ghost use Rattle.psos_calls.specs.Request.{InRange};
-ghost use Rattle.psos_calls.specs.User.{CanMake};
+ghost use Rattle.psos_calls.specs.Language.Request.{InRange};
+ghost use Rattle.psos_calls.specs.Language.User.{CanMake};
 ghost use Rattle.psos_model.specs.Answer.{outcome};
-ghost use Rattle.psos_model.specs.Within.{IsWithin};
+ghost use Rattle.psos_model.specs.Flat.Within.{IsWithin};
 
 use crate::answer_dir::{
     answer_bind, answer_find, answer_list, answer_lookup, answer_path, answer_unbind,

@@ -2,8 +2,8 @@
 ghost use Rattle.std.specs.Prelude.{◌≡◌, ◌∷◌, [], ◌++◌, true, false, None, OnOk, OnErr};
 ghost use Rattle.std.specs.FinMap.{empty};
 ghost use Rattle.psos_table.specs.Table.{at, put, edit, has};
-ghost use Rattle.psos_model.specs.Changes.{with_entry, new_segment};
-ghost use Rattle.psos_model.specs.Undo.{put_back, entry_back, entry_at};
+ghost use Rattle.psos_model.specs.Flat.Changes.{with_entry, new_segment};
+ghost use Rattle.psos_model.specs.Flat.Undo.{put_back, entry_back, entry_at};
 
 use crate::edits::EntryGone;
 use crate::{Directory, Mailbox, Named, NamesTable, Segment};

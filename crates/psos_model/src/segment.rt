@@ -1,7 +1,7 @@
 // A segment.
 ghost use Rattle.std.specs.Prelude.{◌≡◌, length, slice_set, IfOk};
 ghost use Rattle.psos_words.specs.Words.{word_at};
-ghost use Rattle.psos_model.specs.Changes.{new_segment};
+ghost use Rattle.psos_model.specs.Flat.Changes.{new_segment};
 
 use psos_caps::Rights;
 use psos_words::Word;
@@ -16,7 +16,7 @@ pub struct Segment {
 }
 
 impl Model for Segment {
-    ghost use Rattle.psos_model.specs.Rows.{Segment};
+    ghost use Rattle.psos_model.specs.Flat.Rows.{Segment};
 
     ghost Value = { Segment };
 

@@ -1,8 +1,8 @@
 // The answer to a user's next request.
 ghost use Rattle.std.specs.Prelude.{◌≡◌, IfOk, OnOk, OnErr};
-ghost use Rattle.psos_calls.specs.Script.{IsWellFormed};
+ghost use Rattle.psos_calls.specs.Language.Script.{IsWellFormed};
 ghost use Rattle.psos_model.specs.Answer.{answer, silence};
-ghost use Rattle.psos_model.specs.CanStep.{CanStep, IsAnswer};
+ghost use Rattle.psos_model.specs.Answer.CanStep.{CanStep, IsAnswer};
 
 use crate::Flat;
 use crate::requests::outcome_of;

@@ -1,7 +1,7 @@
 // The users' own parts.
 ghost use Rattle.std.specs.Prelude.{◌≡◌, ◌<◌, ◌≤◌, [], ◌∷◌, ◌++◌, length, slice_get, slice_set, None, IfSome};
 ghost use Rattle.std.specs.Option.{option_copied};
-ghost use Rattle.psos_calls.specs.User.{after, CanSettle};
+ghost use Rattle.psos_calls.specs.Language.User.{after, CanSettle};
 
 use arrayvec::ArrayVec;
 use psos_calls::{Effect, Private, Script};
@@ -15,7 +15,7 @@ pub struct Users {
 
 impl Model for Users {
     ghost use Rattle.std.specs.Prelude.{List};
-    ghost use Rattle.psos_calls.specs.User.{User};
+    ghost use Rattle.psos_calls.specs.Language.User.{User};
 
     ghost Value = { List User };
 

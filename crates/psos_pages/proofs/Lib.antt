@@ -1,3 +1,3 @@
-pub mod States
+pub mod SlotStates
 pub mod Tested
-pub mod Written
+pub mod WordWriting

@@ -3,7 +3,7 @@ use Rattle.std.proofs.Common.{ℕ, zero, suc, ◌<◌, List, [], ◌∷◌, Some
 use Rattle.std.proofs.lemmas.Option.{none-some}
 use Rattle.psos_words.specs.declared.word.Word.{Word}
 use Rattle.psos_words.specs.Words.{zeros}
-use Rattle.psos_calls.specs.Level7.{Pages, IsTaken, first_free}
+use Rattle.psos_calls.specs.Levels.Level7.{Pages, IsTaken, first_free}
 
 -- a slot whose words were changed
 pub taken-put : (slots : Pages) (i : ℕ) (words : List Word) → IsTaken slots i → IsTaken (set slots i (Some words)) i

@@ -1,7 +1,7 @@
 -- How the slots are kept: which are taken, and the words of each that was ever taken. States docs/levels.md, "Pages and slots".
 use Rattle.std.specs.Prelude.{◌≡◌, ◌<◌, ℕ, Bool, true, false, List, [], ◌∷◌, Option, Some, None, length, slice_index_or}
 use Rattle.psos_words.specs.declared.word.Word.{Word}
-use Rattle.psos_calls.specs.Level7.{Pages}
+use Rattle.psos_calls.specs.Levels.Level7.{Pages}
 
 -- a slot with these words, free or taken
 abbrev pub slot_with : Bool → List Word → Option (List Word)

@@ -2,7 +2,7 @@
 ghost use Rattle.std.specs.Prelude.{◌≡◌, ◌≤◌, ◌<◌, ◌/◌, ℕ, List, Option, Some, None, replicate, length, slice_set, IfOk, IfErr, OnErr};
 ghost use Rattle.psos_io.specs.Causes.{HasCause};
 ghost use Rattle.psos_words.specs.Words.{zeros, word_at};
-ghost use Rattle.psos_calls.specs.Level7.{Can7, IsTaken, act7, around, first_free, page_words, place_in_slot, with_words, written};
+ghost use Rattle.psos_calls.specs.Levels.Level7.{Can7, IsTaken, act7, around, first_free, page_words, place_in_slot, with_words, written};
 
 use crate::words::{Words, clear, page_at, place, put_four, zero_words};
 use psos_calls::{LevelAnswer, LevelCall, LevelFault};

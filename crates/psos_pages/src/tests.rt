@@ -1,6 +1,6 @@
 // Each call once, with ample memory.
 ghost use Rattle.std.specs.Prelude.{◌≡◌, ◌≤◌, ◌<◌, ◌/◌, IfOk, OnOk};
-ghost use Rattle.psos_calls.specs.Level7.{IsTaken};
+ghost use Rattle.psos_calls.specs.Levels.Level7.{IsTaken};
 
 use crate::Pages;
 use psos_calls::{LevelAnswer, LevelCall};

@@ -1,7 +1,7 @@
 // The 512 words of a slot.
 ghost use Rattle.std.specs.Prelude.{◌≡◌, ◌≤◌, ◌+◌, ◌*◌, ◌<◌, take, drop, length};
 ghost use Rattle.psos_words.specs.Words.{zeros};
-ghost use Rattle.psos_calls.specs.Level7.{place_in_slot, written};
+ghost use Rattle.psos_calls.specs.Levels.Level7.{place_in_slot, written};
 
 use psos_words::{Page, Word};
 

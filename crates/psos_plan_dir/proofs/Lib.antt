@@ -1,7 +1,7 @@
-pub mod Collecting
-pub mod Finding
-pub mod Plans
-pub mod Readers
+pub mod NameLists
+pub mod FindPlan
+pub mod DirectoryPlans
+pub mod DirectoryReaders
 pub mod Representations
-pub mod Steps
-pub mod Walk
+pub mod PlanSteps
+pub mod PageWalk

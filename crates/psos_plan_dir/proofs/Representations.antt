@@ -14,15 +14,15 @@ use Rattle.psos_dirrep.specs.Changes.{IsWhole}
 use Rattle.psos_dirrep.specs.Pages.{was_never}
 use Rattle.psos_dirrep.proofs.Directories.{decoded}
 use Rattle.psos_dirrep.proofs.PageLaws.{front-whole}
-use Rattle.psos_dirrep.proofs.NeverUsed.{never-parts, never-slots}
+use Rattle.psos_dirrep.proofs.NeverUsedSlots.{never-parts, never-slots}
 use Rattle.psos_calls.specs.declared.obj_row.ObjRow.{ObjRow}
 use Rattle.psos_calls.specs.declared.seg_row.SegRow.{SegRow}
-use Rattle.psos_calls.specs.Tests.{if_there}
-use Rattle.psos_calls.specs.Level7.{Pages, slot_words, place_in_slot, page_words}
-use Rattle.psos_calls.specs.Level8.{slot_of}
-use Rattle.psos_calls.specs.Level9.{rep_of}
+use Rattle.psos_calls.specs.Language.Tests.{if_there}
+use Rattle.psos_calls.specs.Levels.Level7.{Pages, slot_words, place_in_slot, page_words}
+use Rattle.psos_calls.specs.Levels.Level8.{slot_of}
+use Rattle.psos_calls.specs.Levels.Level9.{rep_of}
 use Rattle.psos_calls.specs.Levels.{Levels}
-use Rattle.psos_calls.specs.Lists.{HasLists}
+use Rattle.psos_calls.specs.Levels.Lists.{HasLists}
 
 -- ---- an entry list has a slot that was never used
 

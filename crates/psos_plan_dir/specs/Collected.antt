@@ -6,8 +6,8 @@ use Rattle.psos_words.specs.declared.word.Word.{Word}
 use Rattle.psos_words.specs.declared.word.Word.TheVariants.{Data, Cap}
 use Rattle.psos_words.specs.Directory.{Slot, Never, Gone, Used, entries_in, name_from, is_filled_name}
 use Rattle.psos_dirrep.specs.Pages.{slots_in}
-use Rattle.psos_calls.specs.Names.{name_cmp}
-use Rattle.psos_calls.specs.PlanLife.{no_entry}
+use Rattle.psos_calls.specs.Language.Names.{name_cmp}
+use Rattle.psos_calls.specs.Plan.Objects.{no_entry}
 
 -- the name in a slot, if it is used
 abbrev pub name_in : Slot → Option Name

@@ -10,7 +10,7 @@ use Rattle.psos_calls.specs.declared.level_call.LevelCall.{LevelCall}
 use Rattle.psos_calls.specs.declared.level_call.LevelCall.TheVariants.{PageGet}
 use Rattle.psos_calls.specs.declared.level_answer.LevelAnswer.{LevelAnswer}
 use Rattle.psos_calls.specs.declared.level_answer.LevelAnswer.TheVariants.{Whole}
-use Rattle.psos_calls.specs.PlanParts.{Opened}
+use Rattle.psos_calls.specs.Plan.Parts.{Opened}
 
 -- the call reads a page
 abbrev pub reads_page : LevelCall → Bool

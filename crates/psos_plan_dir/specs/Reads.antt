@@ -7,13 +7,13 @@ use Rattle.psos_calls.specs.declared.next.Next.{Next}
 use Rattle.psos_calls.specs.declared.step.Step.{Step}
 use Rattle.psos_calls.specs.declared.right.Right.{Right}
 use Rattle.psos_calls.specs.declared.level_call.LevelCall.TheVariants.{PageGet}
-use Rattle.psos_calls.specs.Level8.{slot_of}
-use Rattle.psos_calls.specs.Level9.{rep_of}
+use Rattle.psos_calls.specs.Levels.Level8.{slot_of}
+use Rattle.psos_calls.specs.Levels.Level9.{rep_of}
 use Rattle.psos_calls.specs.Levels.{Levels}
-use Rattle.psos_calls.specs.Lists.{HasLists}
+use Rattle.psos_calls.specs.Levels.Lists.{HasLists}
 use Rattle.psos_calls.specs.Plan.{Plan, Ask}
-use Rattle.psos_calls.specs.PlanParts.{Opened, read_pages, read_rep, read_dir, open_dir}
-use Rattle.psos_calls.specs.Trace.{followed, next_of, IsTraceOf}
+use Rattle.psos_calls.specs.Plan.Parts.{Opened, read_pages, read_rep, read_dir, open_dir}
+use Rattle.psos_calls.specs.Plan.Trace.{followed, next_of, IsTraceOf}
 use Rattle.psos_plan_dir.specs.declared.reading.Reading.{Reading}
 use Rattle.psos_plan_dir.specs.declared.reading.Reading.TheVariants as readings
 

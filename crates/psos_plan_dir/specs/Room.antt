@@ -5,8 +5,8 @@ use Rattle.psos_text.specs.declared.name.Name.{Name}
 use Rattle.psos_calls.specs.declared.refusal.Refusal.{Refusal}
 use Rattle.psos_calls.specs.declared.refusal.Refusal.TheVariants.{NameTaken, Exhausted}
 use Rattle.psos_calls.specs.declared.tab.Tab.TheVariants.{Entries}
-use Rattle.psos_calls.specs.Tests.{if_there, if_none}
-use Rattle.psos_calls.specs.PlanParts.{Opened}
+use Rattle.psos_calls.specs.Language.Tests.{if_there, if_none}
+use Rattle.psos_calls.specs.Plan.Parts.{Opened}
 
 -- the least slot that is not used, where the name is new
 abbrev pub room_for : Opened → Name → Result ℕ Refusal

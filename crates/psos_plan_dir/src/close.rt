@@ -1,8 +1,8 @@
 // How a plan closes.
 ghost use Rattle.std.specs.Prelude.{◌≡◌};
 ghost use Rattle.psos_calls.specs.Plan.{if_done};
-ghost use Rattle.psos_calls.specs.PlanParts.{fine as it_is_done};
-ghost use Rattle.psos_calls.specs.Trace.{next_of};
+ghost use Rattle.psos_calls.specs.Plan.Parts.{fine as it_is_done};
+ghost use Rattle.psos_calls.specs.Plan.Trace.{next_of};
 
 use psos_calls::close::{fine, refuse};
 use psos_calls::{LevelAnswer, Next};

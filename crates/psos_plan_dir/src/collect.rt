@@ -4,7 +4,7 @@ ghost use Rattle.std.specs.List.{AllByRecursion};
 ghost use Rattle.psos_words.specs.Directory.{Never, entries_in};
 ghost use Rattle.psos_dirrep.specs.Pages.{slots_in, ArePages, AreSlots};
 ghost use Rattle.psos_calls.specs.declared.step.Step.{Step as Made};
-ghost use Rattle.psos_calls.specs.PlanLife.{no_entry};
+ghost use Rattle.psos_calls.specs.Plan.Objects.{no_entry};
 ghost use Rattle.psos_plan_dir.specs.Collected.{collected, name_in, none_used, read_name, with_name, with_names, IsNamed};
 ghost use Rattle.psos_plan_dir.specs.Pages.{IsWhole, pages_in};
 

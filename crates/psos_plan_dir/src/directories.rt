@@ -1,14 +1,14 @@
 // Plans that look into one directory, or change it.
 ghost use Rattle.std.specs.Prelude.{◌≡◌, ◌<◌, not};
 ghost use Rattle.psos_text.specs.Name.{IsName};
-ghost use Rattle.psos_calls.specs.User.{here};
-ghost use Rattle.psos_calls.specs.Trace.{followed, next_of};
+ghost use Rattle.psos_calls.specs.Language.User.{here};
+ghost use Rattle.psos_calls.specs.Plan.Trace.{followed, next_of};
 ghost use Rattle.psos_words.specs.Directory.{gone_words};
 ghost use Rattle.psos_calls.specs.declared.refusal.Refusal.TheVariants.{Distinguished};
 ghost use Rattle.psos_calls.specs.Plan.{refuse as refused};
-ghost use Rattle.psos_calls.specs.PlanParts.{fine, put_slot};
-ghost use Rattle.psos_calls.specs.Tests.{if_holds};
-ghost use Rattle.psos_calls.specs.PlanDir.{plan_bind, plan_lookup, plan_unbind};
+ghost use Rattle.psos_calls.specs.Plan.Parts.{fine, put_slot};
+ghost use Rattle.psos_calls.specs.Language.Tests.{if_holds};
+ghost use Rattle.psos_calls.specs.Plan.Directories.{plan_bind, plan_lookup, plan_unbind};
 ghost use Rattle.psos_plan_dir.specs.Reads.{IsRun};
 
 use crate::close::done;

@@ -1,8 +1,8 @@
 // The plan of `list`.
 ghost use Rattle.std.specs.Prelude.{◌≡◌, ◌<◌, IfOk, OnErr};
-ghost use Rattle.psos_calls.specs.User.{here};
-ghost use Rattle.psos_calls.specs.Trace.{followed, next_of};
-ghost use Rattle.psos_calls.specs.PlanDir.{plan_list};
+ghost use Rattle.psos_calls.specs.Language.User.{here};
+ghost use Rattle.psos_calls.specs.Plan.Trace.{followed, next_of};
+ghost use Rattle.psos_calls.specs.Plan.Directories.{plan_list};
 ghost use Rattle.psos_plan_dir.specs.Listing.{TellsNames};
 ghost use Rattle.psos_plan_dir.specs.Reads.{IsRun};
 

@@ -6,8 +6,8 @@ ghost use Rattle.psos_text.specs.Name.{IsName};
 ghost use Rattle.psos_words.specs.Directory.{entries_in, find, slot_for};
 ghost use Rattle.psos_dirrep.specs.Entries.{as_found};
 ghost use Rattle.psos_dirrep.specs.Pages.{AreSlots, find_on, slot_on, entry_slot};
-ghost use Rattle.psos_calls.specs.Names.{names_of};
-ghost use Rattle.psos_calls.specs.PlanLife.{is_empty};
+ghost use Rattle.psos_calls.specs.Language.Names.{names_of};
+ghost use Rattle.psos_calls.specs.Plan.Objects.{is_empty};
 ghost use Rattle.psos_plan_dir.specs.Pages.{IsOpen, IsWhole, opened_by, pages_in};
 ghost use Rattle.psos_plan_dir.specs.Room.{room_for};
 
@@ -29,7 +29,7 @@ pub struct Open<'a> {
 }
 
 impl<'a> Model for Open<'a> {
-    ghost use Rattle.psos_calls.specs.PlanParts.{Opened};
+    ghost use Rattle.psos_calls.specs.Plan.Parts.{Opened};
     ghost use Rattle.psos_plan_dir.specs.Pages.{IsOpen, opened_by};
 
     ghost Value = { Opened };

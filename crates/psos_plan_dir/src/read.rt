@@ -1,7 +1,7 @@
 // A directory is read, after the answers so far.
 ghost use Rattle.std.specs.Prelude.{◌≡◌, ◌≤◌, [], length};
 ghost use Rattle.psos_words.specs.Directory.{has_never};
-ghost use Rattle.psos_calls.specs.PlanParts.{read_dir as dir_read, read_pages as pages_read, read_rep as rep_read};
+ghost use Rattle.psos_calls.specs.Plan.Parts.{read_dir as dir_read, read_pages as pages_read, read_rep as rep_read};
 ghost use Rattle.psos_plan_dir.specs.Pages.{is_more as more, last_page, pages_first as counted, reads_page as page_read};
 ghost use Rattle.psos_plan_dir.specs.Reads.{open_with, IsCapFront, IsDirFront, IsRepFront, IsSlotFront, Reads};
 

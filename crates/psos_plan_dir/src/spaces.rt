@@ -3,9 +3,9 @@ ghost use Rattle.std.specs.Prelude.{◌≡◌, ◌<◌, ◌≤◌, ◌⊎◌, []
 ghost use Rattle.psos_text.specs.Name.{IsName};
 ghost use Rattle.psos_words.specs.Directory.{find};
 ghost use Rattle.psos_dirrep.specs.Entries.{as_found};
-ghost use Rattle.psos_calls.specs.User.{here};
-ghost use Rattle.psos_calls.specs.Trace.{followed, next_of};
-ghost use Rattle.psos_calls.specs.PlanDir.{plan_find, plan_path};
+ghost use Rattle.psos_calls.specs.Language.User.{here};
+ghost use Rattle.psos_calls.specs.Plan.Trace.{followed, next_of};
+ghost use Rattle.psos_calls.specs.Plan.Directories.{plan_find, plan_path};
 ghost use Rattle.psos_plan_dir.specs.Asked.{asked as count_asked, asks_dir as is_for_dir, BeginsWithDir};
 ghost use Rattle.psos_plan_dir.specs.Reads.{IsRun};
 

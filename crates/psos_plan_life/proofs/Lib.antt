@@ -1,6 +1,6 @@
-pub mod Behind
-pub mod Fronts
-pub mod Rooms
-pub mod Typed
-pub mod Making
-pub mod Deleting
+pub mod PlanSequence
+pub mod RunFronts
+pub mod RoomSearch
+pub mod TypedOpening
+pub mod CreationPlans
+pub mod DeletePlan

@@ -10,13 +10,14 @@ use Rattle.psos_calls.specs.declared.right.Right.TheVariants.{Delete}
 use Rattle.psos_calls.specs.declared.refusal.Refusal.TheVariants.{UnknownName, NotDistinguished, NotEmpty}
 use Rattle.psos_calls.specs.declared.level_call.LevelCall.TheVariants.{Hold13, Hold11, KindOf, Forget, DirGone}
 use Rattle.psos_calls.specs.declared.step.Step.{Step}
-use Rattle.psos_calls.specs.Tests.{if_there, if_holds}
+use Rattle.psos_calls.specs.Language.Tests.{if_there, if_holds}
 use Rattle.psos_calls.specs.Levels.{Levels}
-use Rattle.psos_calls.specs.Lists.{HasLists}
-use Rattle.psos_calls.specs.Plan.{Plan, Ask, refuse, uid, if_done, if_kind}
-use Rattle.psos_calls.specs.PlanParts.{Opened, put_slot, fine}
-use Rattle.psos_calls.specs.PlanLife.{is_empty, drop_kind}
-use Rattle.psos_calls.specs.Trace.{IsTraceOf}
+use Rattle.psos_calls.specs.Levels.Lists.{HasLists}
+use Rattle.psos_calls.specs.Plan.{Plan, Ask, refuse, if_done, if_kind}
+use Rattle.psos_calls.specs.Language.Capabilities.{uid}
+use Rattle.psos_calls.specs.Plan.Parts.{Opened, put_slot, fine}
+use Rattle.psos_calls.specs.Plan.Objects.{is_empty, drop_kind}
+use Rattle.psos_calls.specs.Plan.Trace.{IsTraceOf}
 use Rattle.psos_plan_dir.specs.Reads.{Reader, open_with}
 use Rattle.psos_plan_life.specs.Parts.{Gives, doing}
 

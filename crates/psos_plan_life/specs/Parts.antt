@@ -7,11 +7,12 @@ use Rattle.psos_calls.specs.declared.level_call.LevelCall.{LevelCall}
 use Rattle.psos_calls.specs.declared.level_call.LevelCall.TheVariants.{DirMake, ObjMake}
 use Rattle.psos_calls.specs.declared.step.Step.{Step}
 use Rattle.psos_calls.specs.declared.next.Next.{Next}
-use Rattle.psos_calls.specs.Plan.{Plan, Ask, uid, if_done, if_slot, if_rep}
-use Rattle.psos_calls.specs.PlanParts.{with_fresh}
-use Rattle.psos_calls.specs.PlanLife.{with_segment, drop_segment, drop_object}
+use Rattle.psos_calls.specs.Plan.{Plan, Ask, if_done, if_slot, if_rep}
+use Rattle.psos_calls.specs.Language.Capabilities.{uid}
+use Rattle.psos_calls.specs.Plan.Parts.{with_fresh}
+use Rattle.psos_calls.specs.Plan.Objects.{with_segment, drop_segment, drop_object}
 use Rattle.psos_calls.specs.Levels.{Levels, act}
-use Rattle.psos_calls.specs.Trace.{followed, next_of, IsTraceOf}
+use Rattle.psos_calls.specs.Plan.Trace.{followed, next_of, IsTraceOf}
 
 -- the part is past: it gives x, and what is behind it goes on with the rest of the trace
 pub record Gives {X : Type 0} (part : (X → Plan) → Plan) (trace : List Step) (x : X) (rest : List Step) : Type 0 where

@@ -8,10 +8,11 @@ use Rattle.psos_calls.specs.declared.right.Right.TheVariants.{Create}
 use Rattle.psos_calls.specs.declared.level_call.LevelCall.TheVariants.{DirAt, RepOf, TypeAt}
 use Rattle.psos_calls.specs.declared.step.Step.{Step}
 use Rattle.psos_calls.specs.Levels.{Levels}
-use Rattle.psos_calls.specs.Lists.{HasLists}
-use Rattle.psos_calls.specs.Plan.{Plan, Ask, uid, if_done, if_guard, if_rep}
-use Rattle.psos_calls.specs.PlanParts.{Opened, read_rep, if_room, if_object_room, with_fresh}
-use Rattle.psos_calls.specs.Trace.{IsTraceOf}
+use Rattle.psos_calls.specs.Levels.Lists.{HasLists}
+use Rattle.psos_calls.specs.Plan.{Plan, Ask, if_done, if_guard, if_rep}
+use Rattle.psos_calls.specs.Language.Capabilities.{uid}
+use Rattle.psos_calls.specs.Plan.Parts.{Opened, read_rep, if_room, if_object_room, with_fresh}
+use Rattle.psos_calls.specs.Plan.Trace.{IsTraceOf}
 use Rattle.psos_plan_dir.specs.Reads.{Reader, open_with, IsNoPage}
 use Rattle.psos_plan_life.specs.Parts.{Gives}
 

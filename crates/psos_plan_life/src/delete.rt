@@ -2,10 +2,10 @@
 ghost use Rattle.std.specs.Prelude.{◌≡◌, ◌<◌, MatchResult, Some, []};
 ghost use Rattle.psos_text.specs.Name.{IsName};
 ghost use Rattle.psos_words.specs.Directory.{Found as Entered, find, gone_words as words_of_gone};
-ghost use Rattle.psos_calls.specs.User.{here};
-ghost use Rattle.psos_calls.specs.PlanParts.{put_slot, fine as it_was_done};
-ghost use Rattle.psos_calls.specs.PlanLife.{plan_delete};
-ghost use Rattle.psos_calls.specs.Trace.{followed, next_of};
+ghost use Rattle.psos_calls.specs.Language.User.{here};
+ghost use Rattle.psos_calls.specs.Plan.Parts.{put_slot, fine as it_was_done};
+ghost use Rattle.psos_calls.specs.Plan.Objects.{plan_delete};
+ghost use Rattle.psos_calls.specs.Plan.Trace.{followed, next_of};
 ghost use Rattle.psos_plan_dir.specs.Reads.{IsRun, Reads};
 ghost use Rattle.psos_plan_life.specs.Parts.{Stops};
 ghost use Rattle.psos_plan_life.specs.Deletes.{held_dir, picking, forgotten, deleting, IsHeldFront, IsDeleting, IsEntryOf, IsPicked};

@@ -4,8 +4,8 @@ ghost use Rattle.psos_calls.specs.declared.step.Step.{Step as Made};
 ghost use Rattle.psos_text.specs.Name.{IsName};
 ghost use Rattle.psos_words.specs.Directory.{slot_for, entry_words as words_of_entry};
 ghost use Rattle.psos_calls.specs.Plan.{Plan, give};
-ghost use Rattle.psos_calls.specs.PlanParts.{enrolled, put_slot};
-ghost use Rattle.psos_calls.specs.Trace.{followed, next_of};
+ghost use Rattle.psos_calls.specs.Plan.Parts.{enrolled, put_slot};
+ghost use Rattle.psos_calls.specs.Plan.Trace.{followed, next_of};
 ghost use Rattle.psos_plan_life.specs.Parts.{Tells};
 ghost use Rattle.psos_plan_life.specs.Places.{free_place};
 

@@ -1,8 +1,8 @@
 // The plan of `impl`.
 ghost use Rattle.std.specs.Prelude.{◌≡◌, ◌<◌};
-ghost use Rattle.psos_calls.specs.User.{here};
-ghost use Rattle.psos_calls.specs.Trace.{followed, next_of};
-ghost use Rattle.psos_calls.specs.PlanLife.{plan_impl};
+ghost use Rattle.psos_calls.specs.Language.User.{here};
+ghost use Rattle.psos_calls.specs.Plan.Trace.{followed, next_of};
+ghost use Rattle.psos_calls.specs.Plan.Objects.{plan_impl};
 
 use psos_calls::close::{give, refuse};
 use psos_calls::{Level, LevelAnswer, LevelCall, Next, Private, Refusal, Step};

@@ -2,9 +2,9 @@
 // enrolled.
 ghost use Rattle.std.specs.Prelude.{◌≡◌, ◌<◌};
 ghost use Rattle.psos_text.specs.Name.{IsName};
-ghost use Rattle.psos_calls.specs.User.{here};
-ghost use Rattle.psos_calls.specs.Trace.{followed, next_of};
-ghost use Rattle.psos_calls.specs.PlanLife.{plan_mkseg, plan_mkdir, plan_mktype, plan_mkobj, plan_mkcode};
+ghost use Rattle.psos_calls.specs.Language.User.{here};
+ghost use Rattle.psos_calls.specs.Plan.Trace.{followed, next_of};
+ghost use Rattle.psos_calls.specs.Plan.Objects.{plan_mkseg, plan_mkdir, plan_mktype, plan_mkobj, plan_mkcode};
 ghost use Rattle.psos_plan_dir.specs.Reads.{IsRun};
 
 use crate::enrol::enrol;

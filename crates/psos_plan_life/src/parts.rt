@@ -1,7 +1,7 @@
 // Parts that plans share: each gives the steps behind it, or stops with what comes next.
 ghost use Rattle.std.specs.Prelude.{◌≡◌, MatchResult, IfOk};
 ghost use Rattle.psos_calls.specs.Levels.{level_of};
-ghost use Rattle.psos_calls.specs.PlanParts.{with_fresh};
+ghost use Rattle.psos_calls.specs.Plan.Parts.{with_fresh};
 ghost use Rattle.psos_plan_life.specs.Parts.{Gives, Stops, Tells, Leads, doing, taking, naming};
 
 use psos_calls::close::refuse;

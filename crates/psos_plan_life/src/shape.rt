@@ -1,7 +1,7 @@
 // The length and the guard that a request asks for.
 ghost use Rattle.std.specs.Prelude.{◌≡◌, false, true, MatchOption};
-ghost use Rattle.psos_calls.specs.PlanParts.{is_length};
-ghost use Rattle.psos_calls.specs.PlanLife.{guard_of as guard_for};
+ghost use Rattle.psos_calls.specs.Language.Stores.{is_length};
+ghost use Rattle.psos_calls.specs.Language.Stores.{guard_of as guard_for};
 
 use psos_caps::Rights;
 

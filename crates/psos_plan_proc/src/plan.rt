@@ -1,9 +1,9 @@
 // What a plan does next.
 ghost use Rattle.std.specs.Prelude.{◌≡◌, Ok};
-ghost use Rattle.psos_calls.specs.Request.{InRange};
+ghost use Rattle.psos_calls.specs.Language.Request.{InRange};
 ghost use Rattle.psos_calls.specs.Levels.{Levels};
-ghost use Rattle.psos_calls.specs.PlanOf.{plan_of};
-ghost use Rattle.psos_calls.specs.Trace.{followed, next_of, IsTraceOf};
+ghost use Rattle.psos_calls.specs.Plan.Requests.{plan_of};
+ghost use Rattle.psos_calls.specs.Plan.Trace.{followed, next_of, IsTraceOf};
 ghost use Rattle.psos_plan_proc.specs.Kinds.{IsOfProcesses};
 
 use crate::processes::{next_call, next_recv, next_send};

@@ -1,8 +1,8 @@
 // Plans that ask levels 12 and 13.
 ghost use Rattle.std.specs.Prelude.{◌≡◌, ◌<◌};
-ghost use Rattle.psos_calls.specs.User.{here};
-ghost use Rattle.psos_calls.specs.Trace.{followed, next_of};
-ghost use Rattle.psos_calls.specs.PlanProc.{plan_send, plan_recv, plan_call};
+ghost use Rattle.psos_calls.specs.Language.User.{here};
+ghost use Rattle.psos_calls.specs.Plan.Trace.{followed, next_of};
+ghost use Rattle.psos_calls.specs.Plan.Processes.{plan_send, plan_recv, plan_call};
 
 use psos_calls::close::{enter, fine, give, refuse};
 use psos_calls::{Level, LevelAnswer, LevelCall, Next, Private, Refusal, Step, Tab, limits};

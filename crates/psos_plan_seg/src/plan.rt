@@ -1,9 +1,9 @@
 // What a plan does next.
 ghost use Rattle.std.specs.Prelude.{◌≡◌, Ok};
-ghost use Rattle.psos_calls.specs.Request.{InRange};
+ghost use Rattle.psos_calls.specs.Language.Request.{InRange};
 ghost use Rattle.psos_calls.specs.Levels.{Levels};
-ghost use Rattle.psos_calls.specs.PlanOf.{plan_of};
-ghost use Rattle.psos_calls.specs.Trace.{followed, next_of, IsTraceOf};
+ghost use Rattle.psos_calls.specs.Plan.Requests.{plan_of};
+ghost use Rattle.psos_calls.specs.Plan.Trace.{followed, next_of, IsTraceOf};
 ghost use Rattle.psos_plan_seg.specs.Kinds.{IsOfSegments};
 
 use crate::registers::{next_add, next_mint, next_move, next_restrict, next_set};

@@ -1,8 +1,8 @@
 // Plans that ask no level, and `mint`.
 ghost use Rattle.std.specs.Prelude.{◌≡◌, ◌<◌};
-ghost use Rattle.psos_calls.specs.User.{here};
-ghost use Rattle.psos_calls.specs.Trace.{followed, next_of};
-ghost use Rattle.psos_calls.specs.PlanSeg.{plan_mint, plan_restrict, plan_set, plan_move, plan_add};
+ghost use Rattle.psos_calls.specs.Language.User.{here};
+ghost use Rattle.psos_calls.specs.Plan.Trace.{followed, next_of};
+ghost use Rattle.psos_calls.specs.Plan.Segments.{plan_mint, plan_restrict, plan_set, plan_move, plan_add};
 
 use psos_calls::close::{give, refuse};
 use psos_calls::{Level, LevelAnswer, LevelCall, Next, Private, Refusal, Step};

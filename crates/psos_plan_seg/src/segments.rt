@@ -1,9 +1,9 @@
 // Plans that ask levels 8 and 7.
 ghost use Rattle.std.specs.Prelude.{◌≡◌, ◌<◌};
-ghost use Rattle.psos_calls.specs.User.{here};
+ghost use Rattle.psos_calls.specs.Language.User.{here};
 ghost use Rattle.psos_calls.specs.Levels.{Levels};
-ghost use Rattle.psos_calls.specs.Trace.{followed, next_of, IsTraceOf};
-ghost use Rattle.psos_calls.specs.PlanSeg.{plan_read, plan_write, plan_window, plan_length};
+ghost use Rattle.psos_calls.specs.Plan.Trace.{followed, next_of, IsTraceOf};
+ghost use Rattle.psos_calls.specs.Plan.Segments.{plan_read, plan_write, plan_window, plan_length};
 
 use psos_calls::close::{fine, give, refuse};
 use psos_calls::{Level, LevelAnswer, LevelCall, Next, Private, Refusal, Right, Step};

@@ -1,10 +1,10 @@
 -- Where a user's entries stand, and their lines. States docs/program.md, "Output".
 use Rattle.std.specs.Prelude.{◌≡◌, ◌<◌, ℕ, ◌+◌, ◌==◌, if◌then◌else◌, List, [], ◌∷◌, ◌++◌, length, map, slice_get, slice_index_or}
 use Rattle.psos_calls.specs.declared.entry.Entry.{Entry}
-use Rattle.psos_calls.specs.Script.{Script}
-use Rattle.psos_calls.specs.Tests.{if_there}
+use Rattle.psos_calls.specs.Language.Script.{Script}
+use Rattle.psos_calls.specs.Language.Tests.{if_there}
 use Rattle.psos_model.specs.Replay.{answered_of}
-use Rattle.psos_model.specs.Transcript.{line_text, users_lines}
+use Rattle.psos_model.specs.Text.Transcript.{line_text, users_lines}
 
 -- the transcript of entries: each user's lines in the order of the script
 abbrev pub entries_text : Script → List Entry → List ℕ

@@ -1,6 +1,6 @@
 // The last line of a run.
 ghost use Rattle.std.specs.Prelude.{◌≡◌, ◌<◌, ◌^◌, ◌++◌, length, IfOk, OnOk};
-ghost use Rattle.psos_model.specs.Output.{calls_of, done_text};
+ghost use Rattle.psos_model.specs.Text.Output.{calls_of, done_text};
 
 use psos_calls::Entry;
 use psos_journal::Entries;

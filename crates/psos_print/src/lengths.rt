@@ -1,7 +1,7 @@
 // How long a line is.
 ghost use Rattle.std.specs.Prelude.{◌≡◌, ◌≤◌, ◌<◌, ◌+◌, ◌*◌, ◌^◌, decimal, length};
 ghost use Rattle.psos_text.specs.Name.{name_text};
-ghost use Rattle.psos_model.specs.Transcript.{names_text, refusal_text, reply_text, place_text, line_text};
+ghost use Rattle.psos_model.specs.Text.Transcript.{names_text, refusal_text, reply_text, place_text, line_text};
 ghost use Rattle.psos_print.specs.Line.{answered_in};
 
 use crate::refusal::{kind_word, right_word, tab_word};

@@ -1,7 +1,7 @@
 // The line of an answered request.
 ghost use Rattle.std.specs.Prelude.{◌≡◌, ◌∷◌, ◌++◌, OnOk, OnErr};
 ghost use Rattle.psos_text.specs.Name.{name_text};
-ghost use Rattle.psos_model.specs.Transcript.{place_text, answer_text, line_text};
+ghost use Rattle.psos_model.specs.Text.Transcript.{place_text, answer_text, line_text};
 ghost use Rattle.psos_print.specs.Line.{answered_in};
 
 use crate::lengths::line_len;

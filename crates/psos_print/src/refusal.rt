@@ -1,6 +1,6 @@
 // Why a request was refused.
 ghost use Rattle.std.specs.Prelude.{◌≡◌, ◌≤◌, ◌++◌, length, OnOk};
-ghost use Rattle.psos_model.specs.Transcript.{kind_text, right_text, tab_text, refusal_text};
+ghost use Rattle.psos_model.specs.Text.Transcript.{kind_text, right_text, tab_text, refusal_text};
 
 use psos_calls::{Kind, Refusal, Right, Tab};
 use psos_text::put_number;

@@ -2,7 +2,7 @@
 ghost use Rattle.std.specs.Prelude.{◌≡◌, ◌∷◌, ◌++◌, decimal, OnOk, codes};
 ghost use Rattle.psos_text.specs.Name.{name_text};
 ghost use Rattle.psos_text.specs.Hex.{hex4};
-ghost use Rattle.psos_model.specs.Transcript.{names_text, reply_text};
+ghost use Rattle.psos_model.specs.Text.Transcript.{names_text, reply_text};
 
 use crate::refusal::put_refusal;
 use psos_calls::Reply;

@@ -1,6 +1,6 @@
 // Printed lines and a printed run, with ample memory.
 ghost use Rattle.std.specs.Prelude.{◌≡◌, ◌≤◌, ◌<◌, ◌+◌, length, IfOk, OnOk};
-ghost use Rattle.psos_model.specs.Output.{calls_of};
+ghost use Rattle.psos_model.specs.Text.Output.{calls_of};
 
 use crate::{PrintFault, done_line, line_len, put_line, put_transcript};
 use psos_calls::{
@@ -143,7 +143,7 @@ fn none(alloc: Global) -> Entries<Entry>
     Entries::empty(alloc)
 }
 
-#[tactic(auto, using(crate::proofs::Counts::calls_with))]
+#[tactic(auto, using(crate::proofs::CallCounts::calls_with))]
 fn push(entries: &mut Entries<Entry>, entry: Entry) -> Result<(), Fail>
     requires few { length entries.old < 100 }
     requires short { length entry.steps ≤ 1 }

@@ -5,7 +5,7 @@ ghost use Rattle.std.specs.Io.KnownBytes.{Appends};
 ghost use Rattle.psos_io.specs.Bytes.{AppendsFront};
 ghost use Rattle.psos_text.specs.Name.{name_text};
 ghost use Rattle.psos_model.specs.Replay.{answered_of};
-ghost use Rattle.psos_model.specs.Transcript.{line_text, users_lines};
+ghost use Rattle.psos_model.specs.Text.Transcript.{line_text, users_lines};
 ghost use Rattle.psos_print.specs.Pieces.{HasPut, HasBegun, HasReason};
 ghost use Rattle.psos_print.specs.Places.{entries_text, lines_at, HasPlaces};
 

@@ -16,9 +16,9 @@ use Rattle.psos_calls.specs.declared.level_call.LevelCall.{LevelCall}
 use Rattle.psos_calls.specs.declared.level_call.LevelCall.TheVariants.{Post, Draw}
 use Rattle.psos_calls.specs.declared.level_answer.LevelAnswer.{LevelAnswer}
 use Rattle.psos_calls.specs.declared.level_answer.LevelAnswer.TheVariants.{Done, No}
-use Rattle.psos_calls.specs.Rights.{has}
-use Rattle.psos_calls.specs.Tests.{if_there, if_none, if_holds}
-use Rattle.psos_calls.specs.Level12.{BoxState, posted, drawn_from, act12}
+use Rattle.psos_calls.specs.Language.Rights.{has}
+use Rattle.psos_calls.specs.Language.Tests.{if_there, if_none, if_holds}
+use Rattle.psos_calls.specs.Levels.Level12.{BoxState, posted, drawn_from, act12}
 use Rattle.psos_calls.specs.Locks.{box_of, part_of}
 use Rattle.psos_procs.specs.Mailbox.{Mailbox, process_of, box_posted, box_drawn, act_box}
 use Rattle.psos_procs.specs.Mailboxes.{boxes_of, AreMailboxes}

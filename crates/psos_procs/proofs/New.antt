@@ -1,6 +1,6 @@
 -- New mailboxes.
 use Rattle.std.proofs.Common.{◌≡◌, ℕ, zero, suc, ◌+◌, ◌≤◌, List, [], ◌∷◌, ◌++◌, length, refl, sym, ap, ◌∙◌, arith}
-use Rattle.psos_calls.specs.Level12.{BoxState}
+use Rattle.psos_calls.specs.Levels.Level12.{BoxState}
 use Rattle.psos_table.specs.Table.{put}
 use Rattle.psos_procs.specs.Mailbox.{Mailbox, process_of}
 use Rattle.psos_procs.specs.Mailboxes.{boxes_of, no_words, AreBoxesFrom, AreMailboxes}

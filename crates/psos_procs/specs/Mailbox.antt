@@ -11,8 +11,8 @@ use Rattle.psos_calls.specs.declared.level_call.LevelCall.{LevelCall}
 use Rattle.psos_calls.specs.declared.level_call.LevelCall.TheVariants.{Post, Draw}
 use Rattle.psos_calls.specs.declared.level_answer.LevelAnswer.{LevelAnswer}
 use Rattle.psos_calls.specs.declared.level_answer.LevelAnswer.TheVariants.{Done, Got, No}
-use Rattle.psos_calls.specs.Rights.{has}
-use Rattle.psos_calls.specs.Tests.{if_none, if_holds}
+use Rattle.psos_calls.specs.Language.Rights.{has}
+use Rattle.psos_calls.specs.Language.Tests.{if_none, if_holds}
 
 -- the mailbox of the user with this number, among so many users, and its words, the first first
 pub record Mailbox : Type 0 where

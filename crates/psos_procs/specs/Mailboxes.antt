@@ -2,7 +2,7 @@
 use Rattle.std.specs.Prelude.{◌≡◌, ℕ, zero, suc, ◌+◌, ◌≤◌, List, [], ◌∷◌, length}
 use Rattle.std.specs.FinMap.{empty}
 use Rattle.psos_table.specs.Table.{put}
-use Rattle.psos_calls.specs.Level12.{BoxState}
+use Rattle.psos_calls.specs.Levels.Level12.{BoxState}
 use Rattle.psos_procs.specs.Mailbox.{Mailbox, process_of}
 
 -- the table of mailboxes: under each process its words

@@ -2,7 +2,7 @@
 ghost use Rattle.std.specs.Prelude.{◌≡◌, ℕ, List, length, slice_get, Some};
 ghost use Rattle.psos_table.specs.Table.{put};
 ghost use Rattle.psos_calls.specs.declared.level_call.LevelCall.{LevelCall};
-ghost use Rattle.psos_calls.specs.Level12.{act12};
+ghost use Rattle.psos_calls.specs.Levels.Level12.{act12};
 ghost use Rattle.psos_calls.specs.Locks.{part_of};
 ghost use Rattle.psos_procs.specs.Mailbox.{Mailbox as Box, process_of, act_box};
 ghost use Rattle.psos_procs.specs.Mailboxes.{boxes_of, AreMailboxes};

@@ -1,7 +1,7 @@
 // The mailboxes of all processes.
 ghost use Rattle.std.specs.Prelude.{◌≡◌, ◌<◌, ◌≤◌, length, IsOk, IfOk};
 ghost use Rattle.psos_table.specs.Table.{size};
-ghost use Rattle.psos_calls.specs.Level12.{act12};
+ghost use Rattle.psos_calls.specs.Levels.Level12.{act12};
 ghost use Rattle.psos_procs.specs.Mailboxes.{boxes_of, no_words, AreMailboxes};
 
 use crate::Mailbox;
@@ -21,7 +21,7 @@ impl Model for Procs {
     ghost use Rattle.std.specs.Coded.{coded_ℕ, coded_list};
     ghost use Rattle.std.specs.FinMap as map;
     ghost use Rattle.psos_words.specs.contracts.word.Word as word;
-    ghost use Rattle.psos_calls.specs.Level12.{BoxState};
+    ghost use Rattle.psos_calls.specs.Levels.Level12.{BoxState};
     ghost use Rattle.psos_procs.specs.Mailboxes.{boxes_of, AreMailboxes};
 
     ghost Value = { BoxState };

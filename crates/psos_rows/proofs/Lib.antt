@@ -1,2 +1,2 @@
-pub mod First
-pub mod SoFar
+pub mod FirstUser
+pub mod SerialRun

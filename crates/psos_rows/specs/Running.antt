@@ -1,9 +1,9 @@
 -- A run that is under way. States docs/promises.md, "Runs".
 use Rattle.std.specs.Prelude.{◌≡◌, ℕ, ◌+◌, ◌*◌, ◌≤◌}
 use Rattle.psos_calls.specs.declared.line.Line.{Line}
-use Rattle.psos_calls.specs.Script.{Script}
+use Rattle.psos_calls.specs.Language.Script.{Script}
 use Rattle.psos_model.specs.Flat.{Flat}
-use Rattle.psos_model.specs.Boot.{boot_next}
+use Rattle.psos_model.specs.Flat.Boot.{boot_next}
 use Rattle.psos_model.specs.Answer.{answer}
 use Rattle.psos_model.specs.Sound.{IsSound}
 use Rattle.psos_print.specs.Line.{answered_in}

@@ -1,10 +1,10 @@
 -- Runs in the serial order. States docs/promises.md, "Runs".
 use Rattle.std.specs.Prelude.{◌≡◌, ℕ, List, length, map}
 use Rattle.psos_calls.specs.declared.line.Line.{Line}
-use Rattle.psos_calls.specs.Script.{Script}
-use Rattle.psos_model.specs.Boot.{boot}
+use Rattle.psos_calls.specs.Language.Script.{Script}
+use Rattle.psos_model.specs.Flat.Boot.{boot}
 use Rattle.psos_model.specs.Run.{IsComplete, answers}
-use Rattle.psos_model.specs.SerialOrder.{IsSerialFrom}
+use Rattle.psos_model.specs.Run.SerialOrder.{IsSerialFrom}
 use Rattle.psos_model.specs.Laws.{numbers}
 use Rattle.psos_print.specs.Line.{answered_in}
 

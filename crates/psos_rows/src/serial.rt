@@ -1,8 +1,8 @@
 // Whole runs of the plain program.
 ghost use Rattle.std.specs.Prelude.{◌≡◌, ℕ, ◌<◌, false, IfNone, IfSome, IfOk};
-ghost use Rattle.psos_calls.specs.Script.{IsWellFormed};
+ghost use Rattle.psos_calls.specs.Language.Script.{IsWellFormed};
 ghost use Rattle.psos_model.specs.Run.{has_left};
-ghost use Rattle.psos_model.specs.SerialOrder.{IsFirst};
+ghost use Rattle.psos_model.specs.Run.SerialOrder.{IsFirst};
 ghost use Rattle.psos_rows.specs.Serial.{IsSerialRun};
 ghost use Rattle.psos_rows.specs.Running.{IsRunning, IsNext};
 

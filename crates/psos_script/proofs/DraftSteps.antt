@@ -6,16 +6,16 @@ use Rattle.std.proofs.lemmas.List.{append-nil, map-append, length-map}
 use Rattle.std.proofs.lemmas.List.Sums.{sum_by-append, sum_by-cons}
 use Rattle.psos_text.specs.Name.{is_name}
 use Rattle.psos_calls.specs.declared.request.Request.{Request}
-use Rattle.psos_calls.specs.Request.{InRange}
-use Rattle.psos_calls.specs.Script.{CodeBlock, UserScript}
-use Rattle.psos_model.specs.Operands.{Text}
+use Rattle.psos_calls.specs.Language.Request.{InRange}
+use Rattle.psos_calls.specs.Language.Script.{CodeBlock, UserScript}
+use Rattle.psos_model.specs.Text.Operands.{Text}
 use Rattle.psos_script.specs.Table.{verb_text, head_text}
 use Rattle.psos_script.specs.Fault.{is_among, line_limit, head_cause}
 use Rattle.psos_script.specs.Draft.{Read, Opened, NoneOpen, BodyOpen, UserOpen, open_codes, open_users, place_in, count_in, seen_in, added, added_row, phased, with_now, with_code, with_user, closed, taken}
 use Rattle.psos_script.proofs.HeadParts.{code_parts, user_parts, end_parts, phase_parts, ask_parts, distinct_more}
 use Rattle.psos_script.proofs.RowSound.{row_takes}
-use Rattle.psos_script.proofs.Shape.{label_of, named, read_lines, IsBlock, AreBlocks, IsAsker, AreAskers, IsDraft, all_append, all_front, all_last, blocks_append, map_empty}
-use Rattle.psos_script.proofs.OneMore.{asked_lines, phased_lines, ended_lines, begun_code, closed_lines, begun_user}
+use Rattle.psos_script.proofs.DraftShape.{label_of, named, read_lines, IsBlock, AreBlocks, IsAsker, AreAskers, IsDraft, all_append, all_front, all_last, blocks_append, map_empty}
+use Rattle.psos_script.proofs.OneLineMore.{asked_lines, phased_lines, ended_lines, begun_code, closed_lines, begun_user}
 use Rattle.psos_script.specs.declared.cause.Cause.{Cause}
 use Rattle.psos_script.specs.declared.verb.Verb.{Verb}
 use Rattle.psos_script.specs.declared.head.Head.TheVariants.{Code, End, User, Phase, Asks}

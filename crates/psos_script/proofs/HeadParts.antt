@@ -7,8 +7,8 @@ use Rattle.std.proofs.lemmas.Bool.{true≢false}
 use Rattle.std.proofs.lemmas.Slice.Eq.{bytes_eq-Decides}
 use Rattle.psos_text.specs.Name.{is_name}
 use Rattle.psos_calls.specs.declared.request.Request.{Request}
-use Rattle.psos_calls.specs.Script.{AreDistinct}
-use Rattle.psos_model.specs.Operands.{Text}
+use Rattle.psos_calls.specs.Language.Script.{AreDistinct}
+use Rattle.psos_model.specs.Text.Operands.{Text}
 use Rattle.psos_script.specs.Operands.{is_operand}
 use Rattle.psos_script.specs.Table.{verb_classes}
 use Rattle.psos_script.specs.Values.{row_of, cause_in}

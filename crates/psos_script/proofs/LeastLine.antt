@@ -4,8 +4,8 @@ use Rattle.std.specs.Prelude.{option_map}
 use Rattle.std.proofs.lemmas.Bool.{le-ltb, lt-ltb}
 use Rattle.std.proofs.lemmas.List.{append-nil, reverse-append}
 use Rattle.psos_text.specs.Lines.{lines_of, words_of}
-use Rattle.psos_model.specs.Operands.{Text}
-use Rattle.psos_model.specs.Spelling.{is_skipped, kept}
+use Rattle.psos_model.specs.Text.Operands.{Text}
+use Rattle.psos_model.specs.Text.Spelling.{is_skipped, kept}
 use Rattle.psos_script.specs.Fault.{seen, line_cause, end_cause, with_line, at_line, fault_from, fault_of}
 use Rattle.psos_script.specs.LeastFault.{cause_at, IsLeastFault}
 use Rattle.psos_script.specs.declared.cause.Cause.{Cause}

@@ -4,8 +4,8 @@ use Rattle.std.specs.Prelude.{option_map}
 use Rattle.std.specs.List.{position_or_len}
 use Rattle.std.proofs.lemmas.List.{nil_from_length, drop_all, drop-drop}
 use Rattle.psos_text.specs.Lines.{lines_of, words_of}
-use Rattle.psos_text.proofs.Steps.{some_is}
-use Rattle.psos_text.proofs.Firsts.{is_byte}
+use Rattle.psos_text.proofs.ReadingSteps.{some_is}
+use Rattle.psos_text.proofs.FirstPlaces.{is_byte}
 use Rattle.psos_text.proofs.LineLaws.{line_first}
 use Rattle.psos_script.specs.Fault.{at_line, line_cause, end_cause}
 use Rattle.psos_script.specs.Draft.{Read, seen_in, fault_after, read_after, after_line, nothing_read, first_line}

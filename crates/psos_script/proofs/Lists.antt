@@ -6,7 +6,7 @@ use Rattle.std.proofs.lemmas.List.{get_or-map, length-map}
 use Rattle.std.proofs.lemmas.List.Sums.{position_or_len_is}
 use Rattle.psos_text.specs.declared.name.Name.{Name}
 use Rattle.psos_text.specs.Name.{name_text}
-use Rattle.psos_model.specs.Operands.{Text}
+use Rattle.psos_model.specs.Text.Operands.{Text}
 use Rattle.psos_script.specs.Values.{number_among}
 use Rattle.psos_script.specs.Fault.{is_among}
 

@@ -4,11 +4,11 @@ use Rattle.std.specs.Prelude.{IsTrue}
 use Rattle.std.proofs.lemmas.Bool.{and_parts, eqb-true, leb-true, lt-ltb, le-ltb, le-leb, cond-true, cond-false, cases_lt}
 use Rattle.psos_text.specs.declared.name.Name.{Name as NameValue}
 use Rattle.psos_text.specs.Name.{is_name, name_text, name_of, IsName}
-use Rattle.psos_text.proofs.Steps.{guard_some}
+use Rattle.psos_text.proofs.ReadingSteps.{guard_some}
 use Rattle.psos_text.proofs.NameLaws.{text-name_of, IsName-name_of, name_of-text}
 use Rattle.psos_text.proofs.NumberLaws.{number_takes, number_again}
 use Rattle.psos_text.proofs.HexLaws.{hex_takes, hex_again}
-use Rattle.psos_model.specs.Operands.{Text, register_text, guard_text}
+use Rattle.psos_model.specs.Text.Operands.{Text, register_text, guard_text}
 use Rattle.psos_script.specs.Operands.{register_of, guard_of}
 use Rattle.psos_script.specs.Values.{Value, value_of, value_word}
 use Rattle.psos_script.specs.declared.class.Class.{Class}

@@ -2,13 +2,13 @@
 use Rattle.std.proofs.Common.{◌≡◌, ◌↔◌, ℕ, List, Option, Some, None, Result, Ok, Err, sym, subst, ◌∙◌}
 use Rattle.std.specs.Prelude.{IfOk, IfErr}
 use Rattle.psos_text.specs.Lines.{lines_of}
-use Rattle.psos_calls.specs.Script.{Script}
-use Rattle.psos_model.specs.Spelling.{IsScript}
+use Rattle.psos_calls.specs.Language.Script.{Script}
+use Rattle.psos_model.specs.Text.Spelling.{IsScript}
 use Rattle.psos_script.specs.Fault.{fault_of}
 use Rattle.psos_script.specs.Draft.{script_in}
 use Rattle.psos_script.specs.Answers.{IsFirst, SpellsNone, Finds}
-use Rattle.psos_script.proofs.Sound.{sound}
-use Rattle.psos_script.proofs.Complete.{complete}
+use Rattle.psos_script.proofs.DraftSpelling.{sound}
+use Rattle.psos_script.proofs.ScriptLines.{complete}
 use Rattle.psos_script.specs.declared.fault.ReadFault.{ReadFault}
 use Rattle.psos_script.specs.declared.fault.ReadFault.TheVariants as F
 use Rattle.psos_script.specs.declared.cause.Cause.{Cause}

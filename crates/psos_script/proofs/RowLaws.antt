@@ -5,10 +5,10 @@ use Rattle.std.specs.Str.{bytes_eq}
 use Rattle.std.proofs.lemmas.Slice.Eq.{bytes_eq-Decides}
 use Rattle.std.proofs.lemmas.Bool.{le-leb, lt-leb}
 use Rattle.psos_text.specs.Name.{is_name, name_of}
-use Rattle.psos_text.proofs.Steps.{chosen, some_is}
+use Rattle.psos_text.proofs.ReadingSteps.{chosen, some_is}
 use Rattle.psos_calls.specs.declared.request.Request.{Request}
 use Rattle.psos_calls.specs.declared.request.Request.TheVariants as R
-use Rattle.psos_model.specs.Operands.{Text}
+use Rattle.psos_model.specs.Text.Operands.{Text}
 use Rattle.psos_script.specs.Operands.{is_operand}
 use Rattle.psos_script.specs.Table.{verb_classes, head_text, heads, head_among, head_of}
 use Rattle.psos_script.specs.Values.{Values, value_of, take_of, none_left, values_of, build, value_words, number_among, or_cause, ◌>>=◌, row_of, check_label, cause_in}

@@ -4,12 +4,12 @@ use Rattle.std.specs.Str.{bytes_eq}
 use Rattle.std.proofs.lemmas.Slice.Eq.{bytes_eq-Decides}
 use Rattle.std.proofs.lemmas.List.{get_or_append_left}
 use Rattle.std.proofs.lemmas.Bool.{ltb-true}
-use Rattle.psos_text.proofs.Steps.{chosen}
+use Rattle.psos_text.proofs.ReadingSteps.{chosen}
 use Rattle.psos_calls.specs.declared.request.Request.{Request}
 use Rattle.psos_calls.specs.declared.request.Request.TheVariants as R
-use Rattle.psos_calls.specs.Request.{InRange}
-use Rattle.psos_model.specs.Operands.{Text}
-use Rattle.psos_model.specs.RequestWords.{request_words}
+use Rattle.psos_calls.specs.Language.Request.{InRange}
+use Rattle.psos_model.specs.Text.Operands.{Text}
+use Rattle.psos_model.specs.Text.RequestWords.{request_words}
 use Rattle.psos_script.specs.Table.{verb_classes, verb_text}
 use Rattle.psos_script.specs.Values.{Values, values_of, build, value_words, number_among, ◌>>=◌, row_of, check_label}
 use Rattle.psos_script.proofs.RowLaws.{ok_is, ValuesFit, values_take}

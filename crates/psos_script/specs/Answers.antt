@@ -1,7 +1,7 @@
 -- What the reader answers. States docs/program.md, "Faults".
 use Rattle.std.specs.Prelude.{◌≡◌, ℕ, List, Option, Some, None, Result, Ok, Err}
-use Rattle.psos_calls.specs.Script.{Script}
-use Rattle.psos_model.specs.Spelling.{IsScript}
+use Rattle.psos_calls.specs.Language.Script.{Script}
+use Rattle.psos_model.specs.Text.Spelling.{IsScript}
 use Rattle.psos_script.specs.declared.fault.ReadFault.{ReadFault}
 use Rattle.psos_script.specs.declared.fault.ReadFault.TheVariants as F
 use Rattle.psos_script.specs.declared.cause.Cause.{Cause}

@@ -1,6 +1,6 @@
 -- How causes are printed. States docs/program.md, "Faults".
 use Rattle.std.specs.Prelude.{◌++◌, codes}
-use Rattle.psos_model.specs.Operands.{Text}
+use Rattle.psos_model.specs.Text.Operands.{Text}
 use Rattle.psos_script.specs.declared.class.Class.{Class}
 use Rattle.psos_script.specs.declared.class.Class.TheVariants.{Register, Number, Hex, Name, Label, Guard}
 use Rattle.psos_script.specs.declared.cause.Cause.{Cause}

@@ -3,8 +3,8 @@ use Rattle.std.specs.Prelude.{◌≡◌, ℕ, ◌+◌, ◌==◌, if◌then◌els
 use Rattle.psos_text.specs.Name.{name_text}
 use Rattle.psos_text.specs.Lines.{words_of}
 use Rattle.psos_calls.specs.declared.request.Request.{Request}
-use Rattle.psos_calls.specs.Script.{CodeBlock, UserScript, Script}
-use Rattle.psos_model.specs.Operands.{Text}
+use Rattle.psos_calls.specs.Language.Script.{CodeBlock, UserScript, Script}
+use Rattle.psos_model.specs.Text.Operands.{Text}
 use Rattle.psos_script.specs.Table.{head_of}
 use Rattle.psos_script.specs.Fault.{Seen, line_cause, end_cause, at_line}
 use Rattle.psos_script.specs.Values.{row_of}

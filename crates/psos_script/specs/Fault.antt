@@ -3,8 +3,8 @@ use Rattle.std.specs.Prelude.{ℕ, ◌+◌, Bool, true, false, ◌==◌, not, if
 use Rattle.std.specs.List.{list_all, list_any}
 use Rattle.std.specs.Str.{bytes_eq}
 use Rattle.psos_text.specs.Lines.{lines_of, words_of}
-use Rattle.psos_model.specs.Operands.{Text}
-use Rattle.psos_model.specs.Spelling.{is_skipped, is_printable}
+use Rattle.psos_model.specs.Text.Operands.{Text}
+use Rattle.psos_model.specs.Text.Spelling.{is_skipped, is_printable}
 use Rattle.psos_script.specs.Operands.{is_operand}
 use Rattle.psos_script.specs.Table.{head_of, classes, verb_classes}
 use Rattle.psos_script.specs.declared.class.Class.{Class}

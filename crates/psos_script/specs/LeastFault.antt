@@ -1,6 +1,6 @@
 -- Which fault is the first one, told by places. States docs/program.md, "Faults".
 use Rattle.std.specs.Prelude.{◌≡◌, ℕ, ◌+◌, ◌-◌, ◌<◌, ◌≤◌, if◌then◌else◌, nat_lt, List, [], length, get_or, take, reverse, Option, Some, None}
-use Rattle.psos_model.specs.Spelling.{kept}
+use Rattle.psos_model.specs.Text.Spelling.{kept}
 use Rattle.psos_script.specs.Fault.{Seen, seen, line_cause, end_cause}
 use Rattle.psos_script.specs.declared.cause.Cause.{Cause}
 

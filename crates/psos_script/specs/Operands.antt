@@ -3,7 +3,7 @@ use Rattle.std.specs.Prelude.{ℕ, ◌-◌, Bool, ◌&&◌, ◌==◌, if◌then�
 use Rattle.psos_text.specs.Name.{is_name}
 use Rattle.psos_text.specs.Number.{number_of}
 use Rattle.psos_text.specs.Hex.{hex_of}
-use Rattle.psos_model.specs.Operands.{Text}
+use Rattle.psos_model.specs.Text.Operands.{Text}
 use Rattle.psos_script.specs.declared.class.Class.{Class}
 use Rattle.psos_script.specs.declared.class.Class.TheVariants.{Register, Number, Hex, Name, Label, Guard}
 

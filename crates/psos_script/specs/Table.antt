@@ -1,7 +1,7 @@
 -- The words that begin lines, and the classes of their operands. States docs/program.md, "Scripts".
 use Rattle.std.specs.Prelude.{if◌then◌else◌, List, [], ◌∷◌, codes, Option, Some, None}
 use Rattle.std.specs.Str.{bytes_eq}
-use Rattle.psos_model.specs.Operands.{Text}
+use Rattle.psos_model.specs.Text.Operands.{Text}
 use Rattle.psos_script.specs.declared.class.Class.{Class}
 use Rattle.psos_script.specs.declared.class.Class.TheVariants.{Register, Number, Hex, Name, Label, Guard}
 use Rattle.psos_script.specs.declared.verb.Verb.{Verb}

@@ -9,7 +9,7 @@ use Rattle.psos_text.specs.Number.{number_of}
 use Rattle.psos_text.specs.Hex.{hex4, hex_of}
 use Rattle.psos_calls.specs.declared.request.Request.{Request}
 use Rattle.psos_calls.specs.declared.request.Request.TheVariants as R
-use Rattle.psos_model.specs.Operands.{Text, register_text, guard_text}
+use Rattle.psos_model.specs.Text.Operands.{Text, register_text, guard_text}
 use Rattle.psos_script.specs.Operands.{register_of, guard_of}
 use Rattle.psos_script.specs.Table.{verb_classes}
 use Rattle.psos_script.specs.declared.class.Class.{Class}

@@ -1,8 +1,8 @@
 // Laws above the reading of scripts.
 ghost use Rattle.std.specs.Prelude.{◌≡◌, ◌↔◌, ◌≤◌, ℕ, List, length, Some, None};
 ghost use Rattle.psos_text.specs.Lines.{lines_of};
-ghost use Rattle.psos_calls.specs.Script.{Script};
-ghost use Rattle.psos_model.specs.Spelling.{IsScript};
+ghost use Rattle.psos_calls.specs.Language.Script.{Script};
+ghost use Rattle.psos_model.specs.Text.Spelling.{IsScript};
 ghost use Rattle.psos_script.specs.Fault.{fault_of};
 ghost use Rattle.psos_script.specs.LeastFault.{IsLeastFault};
 ghost use Rattle.psos_script.specs.declared.cause.Cause.{Cause as Why};

@@ -2,7 +2,7 @@
 ghost use Rattle.std.specs.Prelude.{◌≡◌, ◌==◌, ◌<◌, ◌≤◌, length, option_map, IfSome};
 ghost use Rattle.std.specs.List.{list_all, position_or_len};
 ghost use Rattle.psos_text.specs.Lines.{words_of, lines_of};
-ghost use Rattle.psos_model.specs.Spelling.{is_printable as printable};
+ghost use Rattle.psos_model.specs.Text.Spelling.{is_printable as printable};
 ghost use Rattle.psos_script.specs.Fault.{line_cause, words_cause, head_cause};
 ghost use Rattle.psos_script.specs.Draft.{read, seen_in, Reads, taken, after_line, first_line, fault_after, read_after, nothing_read};
 ghost use Rattle.psos_script.specs.Answers.{Finds};

@@ -17,7 +17,7 @@ pub(crate) struct NameList {
 impl Model for NameList {
     ghost use Rattle.std.specs.Prelude.{◌≤◌, List, map, length};
     ghost use Rattle.psos_text.specs.Name.{name_text};
-    ghost use Rattle.psos_model.specs.Operands.{Text};
+    ghost use Rattle.psos_model.specs.Text.Operands.{Text};
 
     ghost Value = { List Text };
 

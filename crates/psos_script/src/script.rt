@@ -1,7 +1,7 @@
 // Scripts.
 ghost use Rattle.std.specs.Prelude.{None, IfOk, IfErr};
 ghost use Rattle.psos_text.specs.Lines.{lines_of};
-ghost use Rattle.psos_model.specs.Spelling.{IsScript};
+ghost use Rattle.psos_model.specs.Text.Spelling.{IsScript};
 ghost use Rattle.psos_script.specs.Fault.{fault_of};
 ghost use Rattle.psos_script.specs.Draft.{script_in, script_of, read};
 ghost use Rattle.psos_script.specs.Answers.{Finds, IsFirst, SpellsNone};
@@ -25,7 +25,7 @@ pub fn read_script(alloc: Global, bytes: &[u8]) -> Result<Script, ReadFault>
 }
 
 // The script that the lines say, or their first fault.
-#[tactic(auto, unfolding(crate::specs::Fault::fault_of, crate::specs::Draft::script_in), using(crate::proofs::Past::from_start))]
+#[tactic(auto, unfolding(crate::specs::Fault::fault_of, crate::specs::Draft::script_in), using(crate::proofs::LinesBefore::from_start))]
 fn script(alloc: Global, bytes: &[u8]) -> Result<Script, ReadFault>
     ensures { Finds (fault_of bytes.now) (λ s. s) (script_in (lines_of bytes.now)) result }
 {

@@ -7,7 +7,7 @@ use Rattle.psos_calls.specs.declared.seg_row.SegRow.{SegRow}
 use Rattle.psos_calls.specs.declared.win_row.WinRow.{WinRow}
 use Rattle.psos_calls.specs.contracts.seg_row.SegRow as seg_row
 use Rattle.psos_calls.specs.contracts.win_row.WinRow as win_row
-use Rattle.psos_calls.specs.Level8.{SegState}
+use Rattle.psos_calls.specs.Levels.Level8.{SegState}
 
 -- the state is stored as its two tables
 abbrev pub seg_state_code : Coded SegState

@@ -5,7 +5,7 @@ use Rattle.psos_calls.specs.declared.seg_row.SegRow.{SegRow}
 use Rattle.psos_calls.specs.declared.win_row.WinRow.{WinRow}
 use Rattle.psos_calls.specs.declared.level_call.LevelCall.{LevelCall}
 use Rattle.psos_calls.specs.declared.level_call.LevelCall.TheVariants.{SegMake, WinMake}
-use Rattle.psos_calls.specs.Level8 as level8
+use Rattle.psos_calls.specs.Levels.Level8 as level8
 use Rattle.psos_segs.specs.declared.view.View.{View}
 
 -- segments have slots and at most 512 words, and windows lie within as many

@@ -3,7 +3,8 @@ ghost use Rattle.std.specs.Prelude.{◌≡◌, ◌+◌, ◌<◌, ◌≤◌, ◌�
 ghost use Rattle.std.specs.Option.{option_map};
 ghost use Rattle.std.specs.FinMap.{empty};
 ghost use Rattle.psos_table.specs.Table.{at, put, without, kept};
-ghost use Rattle.psos_calls.specs.Level8.{SegState, view, slot_of, locate, win_room, win_made, length_of, is_not_over, act8, Can8, IsNew};
+ghost use Rattle.psos_calls.specs.Levels.Level8.{SegState, view, slot_of, locate, win_room, win_made, length_of, act8, Can8, IsNew};
+ghost use Rattle.psos_calls.specs.Language.Views.{is_not_over};
 ghost use Rattle.psos_segs.specs.Within.{as_view, adds_row};
 
 use crate::over::Over;
@@ -27,7 +28,7 @@ pub struct Segs {
 }
 
 impl Model for Segs {
-    ghost use Rattle.psos_calls.specs.Level8.{SegState};
+    ghost use Rattle.psos_calls.specs.Levels.Level8.{SegState};
     ghost use Rattle.psos_segs.specs.Within.{AreWithin};
     ghost use Rattle.psos_segs.specs.Codes.{seg_state_code};
 

@@ -1,7 +1,8 @@
 // What an identifier leads to, and what a capability allows there.
 ghost use Rattle.std.specs.Prelude.{◌≡◌};
-ghost use Rattle.psos_calls.specs.Rights.{has};
-ghost use Rattle.psos_calls.specs.Level8.{fits_in, barred_by};
+ghost use Rattle.psos_calls.specs.Language.Rights.{has};
+ghost use Rattle.psos_calls.specs.Levels.Level8.{barred_by};
+ghost use Rattle.psos_calls.specs.Language.Views.{fits_in};
 ghost use Rattle.psos_segs.specs.Within.{as_view};
 
 use psos_calls::{Right, SegRow};

@@ -1,1 +1,1 @@
-pub mod Frees
+pub mod FreeSlots

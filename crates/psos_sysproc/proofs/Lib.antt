@@ -1,2 +1,2 @@
-pub mod Taken
-pub mod Known
+pub mod FallingLocks
+pub mod CallLocks

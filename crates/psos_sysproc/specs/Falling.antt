@@ -1,7 +1,7 @@
 -- The locks of one user, which it took in the falling order. States docs/levels.md, "Locks".
 use Rattle.std.specs.Prelude.{List, [], ◌∷◌, map, IsTrue}
 use Rattle.psos_calls.specs.declared.lock_id.LockId.{LockId}
-use Rattle.psos_calls.specs.Held.{are_earlier}
+use Rattle.psos_calls.specs.Locks.Held.{are_earlier}
 use Rattle.psos_sysproc.specs.declared.held.Held.{Held}
 
 -- the locks of a list's elements

@@ -1,7 +1,7 @@
 -- What users may do, by the locks that all of them hold. States docs/levels.md, "Locks".
 use Rattle.std.specs.Prelude.{ℕ, Bool, true, List, [], ◌∷◌, slice_index_or, slice_set}
 use Rattle.psos_calls.specs.declared.lock_id.LockId.{LockId}
-use Rattle.psos_calls.specs.Held.{is_lock, is_held, may_take}
+use Rattle.psos_calls.specs.Locks.Held.{is_lock, is_held, may_take}
 use Rattle.psos_sysproc.specs.declared.want.Want.{Want}
 use Rattle.psos_sysproc.specs.declared.want.Want.TheVariants.{Take, Call, Close}
 

@@ -1,6 +1,6 @@
 // The locks that one user holds.
 ghost use Rattle.std.specs.Prelude.{◌≡◌, [], ◌∷◌, IsTrue};
-ghost use Rattle.psos_calls.specs.Held.{is_held, are_earlier};
+ghost use Rattle.psos_calls.specs.Locks.Held.{is_held, are_earlier};
 
 use crate::held::Held;
 use crate::order::{are_before, has_lock};

@@ -1,7 +1,7 @@
 // The falling order of levels, and locks that are the same.
 ghost use Rattle.std.specs.Prelude.{◌≡◌, nat_lt};
 ghost use Rattle.std.specs.List.{list_any, list_all};
-ghost use Rattle.psos_calls.specs.Held.{rank, same_lock};
+ghost use Rattle.psos_calls.specs.Locks.Held.{rank, same_lock};
 ghost use Rattle.psos_sysproc.specs.declared.held.Held.{Held as HeldValue};
 
 use crate::held::Held;

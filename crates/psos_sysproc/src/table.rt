@@ -1,6 +1,6 @@
 // The locks that all users hold.
 ghost use Rattle.std.specs.Prelude.{◌≡◌, ◌<◌, [], length, replicate, IfOk, IsTrue};
-ghost use Rattle.psos_calls.specs.Held.{is_lock, is_free};
+ghost use Rattle.psos_calls.specs.Locks.Held.{is_lock, is_free};
 ghost use Rattle.psos_sysproc.specs.declared.want.Want.TheVariants.{Take};
 ghost use Rattle.psos_sysproc.specs.Wants.{is_known, is_enabled, taken, released};
 

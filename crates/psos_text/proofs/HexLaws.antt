@@ -3,7 +3,7 @@ use Rattle.std.proofs.Common.{◌≡◌, ◌≢◌, ℕ, ◌+◌, ◌-◌, ◌*�
 use Rattle.std.specs.List.{AllByRecursion}
 use Rattle.std.proofs.lemmas.Bool.{and_parts, leb-true, lt-ltb, le-ltb, le-leb, lt-leb, cond-true, cond-false, cases_lt}
 use Rattle.psos_text.specs.Hex.{hex_digit, hex4, digit_of, hex_of}
-use Rattle.psos_text.proofs.Steps.{bind_some, chosen, guard_some, some_is, none_some}
+use Rattle.psos_text.proofs.ReadingSteps.{bind_some, chosen, guard_some, some_is, none_some}
 
 -- what is read of a digit is what is spelled
 pub digit_takes : (c d : ℕ) → digit_of c ≡ Some d → (c ≡ hex_digit d) × (d < 16)

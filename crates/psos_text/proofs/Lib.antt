@@ -1,5 +1,5 @@
-pub mod Steps
-pub mod Firsts
+pub mod ReadingSteps
+pub mod FirstPlaces
 pub mod NameLaws
 pub mod NumberLaws
 pub mod HexLaws

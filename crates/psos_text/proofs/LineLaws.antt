@@ -2,7 +2,7 @@
 use Rattle.std.proofs.Common.{◌≡◌, ℕ, ◌+◌, ◌<◌, ◌≤◌, Bool, true, false, cond, eqb, not, List, [], ◌∷◌, length, take, drop, refl, sym, ap, ◌∙◌, arith}
 use Rattle.std.specs.List.{position_or_len, onto_first, before_first, after_first}
 use Rattle.psos_text.specs.Lines.{lines_of}
-use Rattle.psos_text.proofs.Firsts.{is_byte, take_cons, drop_cons, position_or_len-le}
+use Rattle.psos_text.proofs.FirstPlaces.{is_byte, take_cons, drop_cons, position_or_len-le}
 
 -- the first n bytes, and the lines of what stands after the byte behind them
 abbrev pub piece_and_rest : ℕ → List ℕ → List (List ℕ)

@@ -4,7 +4,7 @@ use Rattle.std.specs.List.{list_all, before_first, position_or_len, AllByRecursi
 use Rattle.std.proofs.lemmas.Bool.{and_parts, true≢false, ne_eqb}
 use Rattle.psos_text.specs.declared.name.Name.{Name}
 use Rattle.psos_text.specs.Name.{is_name_byte, is_name, name_text, padded, name_of, IsName}
-use Rattle.psos_text.proofs.Firsts.{take_cons}
+use Rattle.psos_text.proofs.FirstPlaces.{take_cons}
 
 -- a byte of a name is none that fails the test of one
 pub name_byte_lacks : (sep b : ℕ) → is_name_byte sep ≡ false → is_name_byte b ≡ true → b ≢ sep

@@ -9,7 +9,7 @@ use Rattle.std.proofs.lemmas.Bool.{and_parts, leb-true, ltb-true, le-leb, le-ltb
 use Rattle.std.proofs.lemmas.Fmt.{decimal-digits_value, digits_decimal, digits_value-decimal, first_decimal, decimal_digit, decimal_nonempty, IsAscii-from_digits}
 use Rattle.std.proofs.lemmas.Str.Parse.{IsNumeralModel, numerals_by_value, parse_digits}
 use Rattle.psos_text.specs.Number.{is_digit, is_numeral, number_of}
-use Rattle.psos_text.proofs.Steps.{guard_some, none_some}
+use Rattle.psos_text.proofs.ReadingSteps.{guard_some, none_some}
 
 abbrev Digits : List ℕ → Type 0
 Digits text = list_all is_digit text ≡ true

@@ -3,7 +3,7 @@ use Rattle.std.proofs.Common.{◌≡◌, ℕ, ◌+◌, ◌<◌, Bool, true, fals
 use Rattle.std.specs.List.{position_or_len, slice_split, filter}
 use Rattle.std.proofs.lemmas.List.{nil_from_length}
 use Rattle.psos_text.specs.Lines.{words_of, is_empty, IsFirstWord}
-use Rattle.psos_text.proofs.Firsts.{is_byte, is_other, take_cons, drop_cons, position_or_len-le}
+use Rattle.psos_text.proofs.FirstPlaces.{is_byte, is_other, take_cons, drop_cons, position_or_len-le}
 
 abbrev is_space : ℕ → Bool
 is_space b = eqb b 32

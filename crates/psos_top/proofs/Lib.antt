@@ -1,4 +1,4 @@
-pub mod Refused
-pub mod Printed
-pub mod Ended
-pub mod Pairs
+pub mod FirstFault
+pub mod RunPrinting
+pub mod CommandEnds
+pub mod OptionPairs

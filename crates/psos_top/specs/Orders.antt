@@ -1,11 +1,11 @@
 -- The order in which a command serves requests. States docs/program.md, "Commands".
 use Rattle.std.specs.Prelude.{ℕ, List}
 use Rattle.psos_calls.specs.declared.entry.Entry.{Entry}
-use Rattle.psos_calls.specs.Script.{Script}
-use Rattle.psos_model.specs.Boot.{boot}
+use Rattle.psos_calls.specs.Language.Script.{Script}
+use Rattle.psos_model.specs.Flat.Boot.{boot}
 use Rattle.psos_model.specs.Replay.{System, boot_system}
-use Rattle.psos_model.specs.SerialOrder.{IsSerialFrom}
-use Rattle.psos_model.specs.Turns.{IsTurnsOrderFrom}
+use Rattle.psos_model.specs.Run.SerialOrder.{IsSerialFrom}
+use Rattle.psos_model.specs.Events.Turns.{IsTurnsOrderFrom}
 use Rattle.psos_core.specs.Serving.{IsWholeRun}
 use Rattle.psos_top.specs.declared.command.Command.{Command}
 use Rattle.psos_top.specs.declared.command.Command.TheVariants.{Serial, Turns}

@@ -4,12 +4,12 @@ use Rattle.std.specs.Io.KnownBytes.{Appends, Keeps, IsAtEnd}
 use Rattle.psos_io.specs.Bytes.{AppendsFront}
 use Rattle.psos_io.specs.Causes.{Rose}
 use Rattle.psos_calls.specs.declared.entry.Entry.{Entry}
-use Rattle.psos_calls.specs.Script.{Script, IsWellFormed}
-use Rattle.psos_model.specs.Spelling.{IsScript}
+use Rattle.psos_calls.specs.Language.Script.{Script, IsWellFormed}
+use Rattle.psos_model.specs.Text.Spelling.{IsScript}
 use Rattle.psos_model.specs.Run.{IsComplete}
 use Rattle.psos_model.specs.Replay.{System, order_of}
-use Rattle.psos_model.specs.Transcript.{transcript}
-use Rattle.psos_model.specs.Output.{output, printed}
+use Rattle.psos_model.specs.Text.Transcript.{transcript}
+use Rattle.psos_model.specs.Text.Output.{output, printed}
 use Rattle.psos_print.specs.declared.fault.PrintFault.{PrintFault}
 use Rattle.psos_print.specs.declared.fault.PrintFault.TheVariants as faults
 use Rattle.psos_print.specs.Places.{entries_text}

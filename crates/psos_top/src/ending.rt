@@ -1,7 +1,7 @@
 // The ends of a command.
 ghost use Rattle.std.specs.Prelude.{◌≡◌, ◌≤◌, ◌<◌, ◌^◌, ◌⊎◌, None, Some, IfOk, IfErr, IfSome, OnOk, option_map};
 ghost use Rattle.std.specs.Io.KnownBytes.{Appends, Keeps};
-ghost use Rattle.psos_model.specs.Output.{calls_of, printed};
+ghost use Rattle.psos_model.specs.Text.Output.{calls_of, printed};
 ghost use Rattle.psos_print.specs.Pieces.{HasReason};
 ghost use Rattle.psos_core.specs.System.{system_of};
 ghost use Rattle.psos_top.specs.Orders.{IsRunBy};

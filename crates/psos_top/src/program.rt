@@ -3,7 +3,7 @@ ghost use Rattle.std.specs.Prelude.{◌≡◌, ◌≢◌, ◌≤◌, ◌↔◌, 
 ghost use Rattle.std.specs.IoError.{error_kind};
 ghost use Rattle.std.specs.Process.{exit_status};
 ghost use Rattle.psos_io.specs.Causes.{Rose};
-ghost use Rattle.psos_calls.specs.Script.{Script as Spelled};
+ghost use Rattle.psos_calls.specs.Language.Script.{Script as Spelled};
 ghost use Rattle.psos_core.specs.System.{system_of};
 ghost use Rattle.psos_top.specs.declared.words.Asked.{Asked};
 ghost use Rattle.psos_top.specs.Words.{words_in, words_asked};

@@ -1,10 +1,10 @@
 // A command, from the bytes that go in to those that come out.
 ghost use Rattle.std.specs.Prelude.{◌≡◌, ◌≤◌, ◌<◌, ◌^◌, [], None, Some, IsSome, OnOk, IfErr, IfSome, option_map};
 ghost use Rattle.std.specs.Io.KnownBytes.{Keeps};
-ghost use Rattle.psos_calls.specs.Script.{IsWellFormed};
-ghost use Rattle.psos_model.specs.Boot.{boot};
+ghost use Rattle.psos_calls.specs.Language.Script.{IsWellFormed};
+ghost use Rattle.psos_model.specs.Flat.Boot.{boot};
 ghost use Rattle.psos_model.specs.Replay.{boot_system};
-ghost use Rattle.psos_model.specs.Output.{calls_of};
+ghost use Rattle.psos_model.specs.Text.Output.{calls_of};
 ghost use Rattle.psos_core.specs.System.{system_of};
 ghost use Rattle.psos_core.specs.Faults.{MayStop};
 ghost use Rattle.psos_core.specs.Events.{IsAfter};

@@ -5,7 +5,7 @@ use Rattle.std.specs.FinMap as map
 use Rattle.psos_table.specs.Table.{Table}
 use Rattle.psos_calls.specs.declared.obj_row.ObjRow.{ObjRow}
 use Rattle.psos_calls.specs.contracts.obj_row.ObjRow as obj_row
-use Rattle.psos_calls.specs.Level9.{TypeState}
+use Rattle.psos_calls.specs.Levels.Level9.{TypeState}
 
 -- the state is stored as its two tables
 abbrev pub type_state_code : Coded TypeState

@@ -2,7 +2,7 @@
 ghost use Rattle.std.specs.Prelude.{◌≡◌, IfOk, IfErr, OnOk, OnErr, IsTrue, alloc_error};
 ghost use Rattle.std.specs.FinMap.{empty};
 ghost use Rattle.psos_table.specs.Table.{without};
-ghost use Rattle.psos_calls.specs.Level9.{rep_of, type_at, impl_of, has_objects, type_gone, act9, Can9};
+ghost use Rattle.psos_calls.specs.Levels.Level9.{rep_of, type_at, impl_of, has_objects, type_gone, act9, Can9};
 ghost use Rattle.psos_types.specs.Rows.{adds_row};
 
 use crate::by_type::ByType;
@@ -25,7 +25,7 @@ pub struct Types {
 }
 
 impl Model for Types {
-    ghost use Rattle.psos_calls.specs.Level9.{TypeState};
+    ghost use Rattle.psos_calls.specs.Levels.Level9.{TypeState};
     ghost use Rattle.psos_types.specs.Codes.{type_state_code};
 
     ghost Value = { TypeState };

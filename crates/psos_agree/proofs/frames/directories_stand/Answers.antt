@@ -1,4 +1,4 @@
-use Rattle.psos_agree.proofs.SegmentsDirs.{stands_directory_made, stands_directory_gone}
+use Rattle.psos_agree.proofs.DirectoriesStand.{stands_directory_made, stands_directory_gone}
 use Rattle.psos_agree.proofs.frames.directories_stand.Goals as goal
 
 pub returns-clause-made : goal.returns-clause-made

@@ -1,4 +1,4 @@
-use Rattle.psos_agree.proofs.EntriesPut.{stands_entry, stands_no_entry}
+use Rattle.psos_agree.proofs.EntryWriting.{stands_entry, stands_no_entry}
 use Rattle.psos_agree.proofs.frames.entries_stand.Goals as goal
 
 pub returns-clause-added : goal.returns-clause-added

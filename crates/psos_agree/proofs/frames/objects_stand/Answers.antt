@@ -1,4 +1,4 @@
-use Rattle.psos_agree.proofs.SegmentsObjects.{stands_object_made, stands_object_gone}
+use Rattle.psos_agree.proofs.ObjectsStand.{stands_object_made, stands_object_gone}
 use Rattle.psos_agree.proofs.frames.objects_stand.Goals as goal
 
 pub returns-clause-made : goal.returns-clause-made

@@ -1,4 +1,4 @@
-use Rattle.psos_agree.proofs.SegmentsMade.{stands_made, stands_gone}
+use Rattle.psos_agree.proofs.SegmentsStand.{stands_made, stands_gone}
 use Rattle.psos_agree.proofs.frames.segments_stand.Goals as goal
 
 pub returns-clause-made : goal.returns-clause-made

@@ -1,4 +1,4 @@
-use Rattle.psos_agree.proofs.SegmentsRoom.{slot_is_free}
+use Rattle.psos_agree.proofs.SlotRoom.{slot_is_free}
 use Rattle.psos_agree.proofs.frames.slots_are_left.Goals as goal
 
 pub returns : goal.returns

@@ -1,4 +1,4 @@
-use Rattle.psos_agree.proofs.ListsStand as lists
+use Rattle.psos_agree.proofs.EntryLists as lists
 use Rattle.psos_agree.proofs.laws.directories_are_lists.Goals as goal
 
 pub returns : goal.returns

@@ -1,4 +1,4 @@
-use Rattle.psos_agree.proofs.Lengths as lengths
+use Rattle.psos_agree.proofs.PlanLengths as lengths
 use Rattle.psos_agree.proofs.laws.plans_are_short.Goals as goal
 
 pub returns : goal.returns

@@ -1,4 +1,4 @@
-use Rattle.psos_agree.proofs.Stepping.{all_agree}
+use Rattle.psos_agree.proofs.RequestsAgree.{all_agree}
 use Rattle.psos_agree.proofs.laws.plans_run.Goals as goal
 
 pub returns : goal.returns

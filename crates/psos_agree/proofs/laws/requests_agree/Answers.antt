@@ -1,4 +1,4 @@
-use Rattle.psos_agree.proofs.Stepping.{step_agrees}
+use Rattle.psos_agree.proofs.RequestsAgree.{step_agrees}
 use Rattle.psos_agree.proofs.laws.requests_agree.Goals as goal
 
 pub returns : goal.returns

@@ -1,4 +1,4 @@
-use Rattle.psos_calls.proofs.Refusals as refusals
+use Rattle.psos_calls.proofs.RefusedCalls as refusals
 use Rattle.psos_calls.proofs.laws.refused_calls_change_nothing.Goals as goal
 
 pub returns : goal.returns

@@ -1,4 +1,4 @@
-use Rattle.psos_model.specs.Boot.{boot}
+use Rattle.psos_model.specs.Flat.Boot.{boot}
 use Rattle.psos_compare.proofs.runs.core_text.Given as goal
 
 abbrev pub ghost-serial : goal.ghost-serial

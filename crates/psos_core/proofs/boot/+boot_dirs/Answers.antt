@@ -2,7 +2,7 @@ use Rattle.std.proofs.Common.{sym, ap, ◌∙◌}
 use Rattle.psos_table.specs.Table.{Table, at}
 use Rattle.psos_table.proofs.Tables.{at-empty}
 use Rattle.psos_caps.specs.declared.rights.Rights.{Rights}
-use Rattle.psos_core.proofs.Booted.{ok_is, new_under, next_guard}
+use Rattle.psos_core.proofs.BootTables.{ok_is, new_under, next_guard}
 use Rattle.psos_core.proofs.boot.+boot_dirs.Goals as goal
 
 pub make_directory-requires : goal.make_directory-requires

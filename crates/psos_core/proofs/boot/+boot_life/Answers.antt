@@ -2,7 +2,7 @@ use Rattle.std.proofs.Common.{sym, length, ◌≤◌, subst, ◌+◌, ◌<◌, a
 use Rattle.std.proofs.lemmas.Grind.{common_steps}
 use Rattle.psos_table.specs.Table.{Table, size}
 use Rattle.psos_calls.specs.declared.kind.Kind.{Kind}
-use Rattle.psos_core.proofs.Booted.{new_under, next_life, few_life}
+use Rattle.psos_core.proofs.BootTables.{new_under, next_life, few_life}
 use Rattle.psos_core.proofs.boot.+boot_life.Goals as goal
 
 pub enrol-requires-clause-new : goal.enrol-requires-clause-new

@@ -1,8 +1,8 @@
 use Rattle.std.proofs.Common.{sym, ap, ◌∙◌, ◌+◌, ◌*◌}
 use Rattle.psos_table.specs.Table.{at}
 use Rattle.psos_table.proofs.Tables.{at-empty}
-use Rattle.psos_calls.specs.Level8.{SegState}
-use Rattle.psos_core.proofs.Booted.{ok_is, new_under, next_rep}
+use Rattle.psos_calls.specs.Levels.Level8.{SegState}
+use Rattle.psos_core.proofs.BootTables.{ok_is, new_under, next_rep}
 use Rattle.psos_core.proofs.boot.+boot_reps.Goals as goal
 
 pub make_segment-requires-clause-new : goal.make_segment-requires-clause-new

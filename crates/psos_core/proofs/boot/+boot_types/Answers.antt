@@ -1,8 +1,8 @@
 use Rattle.std.proofs.Common.{sym, ap, ◌∙◌}
 use Rattle.psos_table.specs.Table.{at}
 use Rattle.psos_table.proofs.Tables.{at-empty}
-use Rattle.psos_calls.specs.Level9.{TypeState}
-use Rattle.psos_core.proofs.Booted.{ok_is, new_under, next_object}
+use Rattle.psos_calls.specs.Levels.Level9.{TypeState}
+use Rattle.psos_core.proofs.BootTables.{ok_is, new_under, next_object}
 use Rattle.psos_core.proofs.boot.+boot_types.Goals as goal
 
 pub make_object-requires-clause-new : goal.make_object-requires-clause-new

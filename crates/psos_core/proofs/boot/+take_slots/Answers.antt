@@ -1,7 +1,7 @@
 use Rattle.std.proofs.Common.{ap, ◌-◌, arith}
-use Rattle.psos_calls.specs.Level7.{Pages}
+use Rattle.psos_calls.specs.Levels.Level7.{Pages}
 use Rattle.psos_calls.specs.declared.level_answer.LevelAnswer.{LevelAnswer}
-use Rattle.psos_core.proofs.Booted.{room_left, took}
+use Rattle.psos_core.proofs.BootTables.{room_left, took}
 use Rattle.psos_core.proofs.boot.+take_slots.Goals as goal
 
 pub act-requires : goal.act-requires

@@ -1,5 +1,5 @@
 use Rattle.std.proofs.Common.{arith, length, ◌+◌, ◌*◌}
-use Rattle.psos_core.proofs.Booted.{booted_from}
+use Rattle.psos_core.proofs.BootTables.{booted_from}
 use Rattle.psos_core.proofs.boot.boot_pages.Goals as goal
 
 pub returns-clause-slots : goal.returns-clause-slots

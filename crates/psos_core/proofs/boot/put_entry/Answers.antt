@@ -1,7 +1,7 @@
 use Rattle.std.proofs.Common.{ap}
-use Rattle.psos_calls.specs.Level7.{Pages}
+use Rattle.psos_calls.specs.Levels.Level7.{Pages}
 use Rattle.psos_calls.specs.declared.level_answer.LevelAnswer.{LevelAnswer}
-use Rattle.psos_core.proofs.Booted.{can_put, was_put}
+use Rattle.psos_core.proofs.BootTables.{can_put, was_put}
 use Rattle.psos_core.proofs.boot.put_entry.Goals as goal
 
 pub act-requires : goal.act-requires

@@ -1,5 +1,5 @@
 use Rattle.psos_core.specs.Faults.{CanFault}
-use Rattle.psos_core.proofs.Stepping.{from_err}
+use Rattle.psos_core.proofs.EventStep.{from_err}
 use Rattle.psos_core.proofs.perform.make.Goals as goal
 
 pub returns-in-Err-clause-why : goal.returns-in-Err-clause-why

@@ -2,12 +2,12 @@ use Rattle.std.proofs.Common.{◌≡◌, List, length, refl, sym, ap, subst, ◌
 use Rattle.psos_calls.specs.declared.next.Next.TheVariants as nexts
 use Rattle.std.proofs.lemmas.Option.{slice_get_within}
 use Rattle.psos_calls.specs.declared.step.Step.{Step}
-use Rattle.psos_calls.specs.User.{User}
+use Rattle.psos_calls.specs.Language.User.{User}
 use Rattle.psos_calls.specs.Levels.{act}
-use Rattle.psos_calls.specs.PlanOf.{plan_of}
-use Rattle.psos_calls.specs.Trace.{followed, next_of, IsTraceOf}
-use Rattle.psos_core.proofs.Walked.{IsLeft, all_left, can_ask, level_is, left_more, fewer_left, whole_at_close}
-use Rattle.psos_core.proofs.Found.{found_is, asked_is}
+use Rattle.psos_calls.specs.Plan.Requests.{plan_of}
+use Rattle.psos_calls.specs.Plan.Trace.{followed, next_of, IsTraceOf}
+use Rattle.psos_core.proofs.PlanRun.{IsLeft, all_left, can_ask, level_is, left_more, fewer_left, whole_at_close}
+use Rattle.psos_core.proofs.UserSlots.{found_is, asked_is}
 use Rattle.psos_core.specs.System.{levels_of}
 use Rattle.psos_core.proofs.perform.perform.Goals as goal
 

@@ -1,9 +1,9 @@
 use Rattle.std.proofs.Common.{◌≡◌, ◌≤◌, length}
 use Rattle.psos_calls.specs.Plan.{run_plan}
-use Rattle.psos_calls.specs.PlanOf.{plan_of}
-use Rattle.psos_calls.specs.Trace.{followed}
+use Rattle.psos_calls.specs.Plan.Requests.{plan_of}
+use Rattle.psos_calls.specs.Plan.Trace.{followed}
 use Rattle.psos_core.specs.System.{levels_of}
-use Rattle.psos_core.proofs.Walked.{IsLeft}
+use Rattle.psos_core.proofs.PlanRun.{IsLeft}
 use Rattle.psos_core.proofs.perform.perform.Given as goal
 
 -- what is left of the plan, run from the levels as they are, is what is left of the whole run

@@ -1,6 +1,6 @@
 use Rattle.std.proofs.Common.{◌≡◌, Some, sym, ◌∙◌}
-use Rattle.psos_calls.specs.User.{next_request}
-use Rattle.psos_model.proofs.Asked.{in_range}
+use Rattle.psos_calls.specs.Language.User.{next_request}
+use Rattle.psos_model.proofs.RequestRanges.{in_range}
 use Rattle.psos_core.proofs.planning.planned.Goals as goal
 
 pub next-requires-clause-in_range : goal.next-requires-clause-in_range

@@ -1,6 +1,6 @@
 use Rattle.std.proofs.Common.{◌≤◌, ◌+◌, ◌-◌, Vec, Global, List, ◌∷◌, length, map, sum_by, subst, arith}
 use Rattle.psos_calls.specs.declared.request.Request.{Request}
-use Rattle.psos_core.proofs.Phases.{asked_fits}
+use Rattle.psos_core.proofs.PhaseRequests.{asked_fits}
 use Rattle.psos_core.proofs.serial.+asked_before.Goals as goal
 
 pub overflow_add-result : goal.overflow_add-result

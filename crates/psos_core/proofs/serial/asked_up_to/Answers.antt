@@ -1,5 +1,5 @@
 use Rattle.std.proofs.Common.{arith}
-use Rattle.psos_core.proofs.Scripts.{phases_bound}
+use Rattle.psos_core.proofs.ScriptPhases.{phases_bound}
 use Rattle.psos_core.proofs.serial.asked_up_to.Goals as goal
 
 pub overflow_add-p : goal.overflow_add-p

@@ -2,7 +2,7 @@ use Rattle.std.proofs.Common.{List, refl, sym, arith, subst}
 use Rattle.psos_calls.specs.declared.entry.Entry.{Entry}
 use Rattle.psos_core.specs.System.{system_of}
 use Rattle.psos_core.specs.UnderWay.{HasServed}
-use Rattle.psos_core.proofs.Along.{at_start, at_end, front_so_far}
+use Rattle.psos_core.proofs.SerialRun.{at_start, at_end, front_so_far}
 use Rattle.psos_core.proofs.serial.serve_phases.Goals as goal
 
 pub phases-init : goal.phases-init

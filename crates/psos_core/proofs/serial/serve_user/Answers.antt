@@ -2,12 +2,12 @@ use Rattle.std.proofs.Common.{◌≡◌, ◌+◌, ◌++◌, ◌∷◌, [], None,
 use Rattle.std.specs.Prelude.{slice_get}
 use Rattle.std.proofs.lemmas.Grind.{common_steps}
 use Rattle.std.proofs.lemmas.List.{length-append}
-use Rattle.psos_calls.specs.Script.{user_script}
+use Rattle.psos_calls.specs.Language.Script.{user_script}
 use Rattle.psos_core.specs.System.{system_of}
 use Rattle.psos_core.specs.Serving.{IsFrontFrom}
 use Rattle.psos_core.specs.UnderWay.{asked_before, due}
-use Rattle.psos_core.proofs.Found.{found_there}
-use Rattle.psos_core.proofs.Along.{all_users, few, asks, one_more, one_fewer, next_user, front_so_far}
+use Rattle.psos_core.proofs.UserSlots.{found_there}
+use Rattle.psos_core.proofs.SerialRun.{all_users, few, asks, one_more, one_fewer, next_user, front_so_far}
 use Rattle.psos_core.proofs.serial.serve_user.Goals as goal
 
 pub bounds-as_slice-u : goal.bounds-as_slice-u

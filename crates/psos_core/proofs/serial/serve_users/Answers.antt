@@ -1,6 +1,6 @@
 use Rattle.std.proofs.Common.{arith}
 use Rattle.psos_core.specs.System.{system_of}
-use Rattle.psos_core.proofs.Along.{next_phase, front_so_far}
+use Rattle.psos_core.proofs.SerialRun.{next_phase, front_so_far}
 use Rattle.psos_core.proofs.serial.serve_users.Goals as goal
 
 pub returns-clause-served : goal.returns-clause-served

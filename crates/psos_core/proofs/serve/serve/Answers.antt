@@ -1,8 +1,8 @@
 use Rattle.std.proofs.Common.{◌≡◌, List, length, get_or, sym, ap, subst, ◌∙◌, arith}
-use Rattle.psos_calls.specs.User.{User, CanSettle, place_of, after}
+use Rattle.psos_calls.specs.Language.User.{User, CanSettle, place_of, after}
 use Rattle.psos_core.specs.System.{system_of}
-use Rattle.psos_core.proofs.Found.{nobody}
-use Rattle.psos_core.proofs.Served.{ranged, lists, within as user_within, is_user, me_is, me_there, can_run, few_calls, can_settle, served}
+use Rattle.psos_core.proofs.UserSlots.{nobody}
+use Rattle.psos_core.proofs.RequestServing.{ranged, lists, within as user_within, is_user, me_is, me_there, can_run, few_calls, can_settle, served}
 use Rattle.psos_core.proofs.serve.serve.Goals as goal
 
 pub perform-requires : goal.perform-requires

@@ -1,5 +1,5 @@
 use Rattle.std.proofs.Common.{get_or}
-use Rattle.psos_core.proofs.Found.{nobody}
+use Rattle.psos_core.proofs.UserSlots.{nobody}
 use Rattle.psos_core.proofs.serve.serve.Given as goal
 
 abbrev pub ghost-perform : goal.ghost-perform

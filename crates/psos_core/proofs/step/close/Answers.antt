@@ -5,18 +5,18 @@ use Rattle.std.specs.Vec.{with_item}
 use Rattle.std.proofs.lemmas.Grind.{common_steps}
 use Rattle.std.proofs.lemmas.Option.{same_Some}
 use Rattle.psos_calls.specs.declared.step.Step.{Step}
-use Rattle.psos_calls.specs.User.{User, CanSettle, place_of, after}
-use Rattle.psos_calls.specs.Trace.{calls_in}
+use Rattle.psos_calls.specs.Language.User.{User, CanSettle, place_of, after}
+use Rattle.psos_calls.specs.Plan.Trace.{calls_in}
 use Rattle.psos_model.specs.Run.{current_phase}
-use Rattle.psos_model.specs.Core.{trace_of}
+use Rattle.psos_model.specs.Events.{trace_of}
 use Rattle.psos_core.specs.declared.levels.Levels.{Levels}
 use Rattle.psos_core.specs.declared.ongoing.Ongoing.{Ongoing}
 use Rattle.psos_core.specs.declared.upcoming.Upcoming.{Upcoming}
 use Rattle.psos_core.specs.Plans.{state_in, next_after, CanPlan, Tells}
-use Rattle.psos_core.proofs.Found.{found_there}
-use Rattle.psos_core.proofs.Stepping.{in_place}
-use Rattle.psos_core.proofs.Reached.{done, few, can_settle, answered_fits, within_fits}
-use Rattle.psos_core.proofs.Moved.{below, read_back, parts_are, closed_is, closing, waits, shut_plan, shut}
+use Rattle.psos_core.proofs.UserSlots.{found_there}
+use Rattle.psos_core.proofs.EventStep.{in_place}
+use Rattle.psos_core.proofs.EventRun.{done, few, can_settle, answered_fits, within_fits}
+use Rattle.psos_core.proofs.EventParts.{below, read_back, parts_are, closed_is, closing, waits, shut_plan, shut}
 use Rattle.psos_core.proofs.step.close.Goals as goal
 
 pub place-n-requires-clause-answered : goal.place-n-requires-clause-answered

@@ -1,8 +1,8 @@
 use Rattle.std.proofs.Common.{◌≡◌, length, None, sym, ap, ◌∙◌}
 use Rattle.psos_core.specs.Plans.{state_in, next_for, call_in}
-use Rattle.psos_core.proofs.Stepping.{asked_call, asked_close}
-use Rattle.psos_core.proofs.Reached.{kept_next, goes}
-use Rattle.psos_core.proofs.Moved.{placed}
+use Rattle.psos_core.proofs.EventStep.{asked_call, asked_close}
+use Rattle.psos_core.proofs.EventRun.{kept_next, goes}
+use Rattle.psos_core.proofs.EventParts.{placed}
 use Rattle.psos_core.proofs.step.step.Goals as goal
 
 pub call_of-requires : goal.call_of-requires

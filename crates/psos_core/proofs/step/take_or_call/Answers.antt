@@ -4,20 +4,20 @@ use Rattle.std.specs.Vec.{with_item}
 use Rattle.psos_calls.specs.declared.level.Level.{Level}
 use Rattle.psos_calls.specs.declared.lock_id.LockId.{LockId}
 use Rattle.psos_calls.specs.declared.step.Step.{Step}
-use Rattle.psos_calls.specs.Held.{is_lock}
-use Rattle.psos_model.specs.Core.{Event, trace_of, event_of, core_step}
-use Rattle.psos_events.proofs.Under.{lock_is_lock}
-use Rattle.psos_events.proofs.Traces.{step_of}
+use Rattle.psos_calls.specs.Locks.Held.{is_lock}
+use Rattle.psos_model.specs.Events.{Event, trace_of, event_of, core_step}
+use Rattle.psos_events.proofs.LockScope.{lock_is_lock}
+use Rattle.psos_events.proofs.OpenTraces.{step_of}
 use Rattle.psos_core.specs.declared.event.Event.TheVariants.{Call as Called}
 use Rattle.psos_core.specs.declared.ongoing.Ongoing.{Ongoing}
 use Rattle.psos_core.specs.Plans.{state_in, next_for, next_after, CanPlan, IsLeveled, Tells, closes}
 use Rattle.psos_core.specs.Faults.{CanStopAt}
 use Rattle.psos_journal.specs.declared.stop_cause.StopCause.TheVariants as stops
 use Rattle.psos_core.specs.Events.{told}
-use Rattle.psos_core.proofs.Found.{found_there}
-use Rattle.psos_core.proofs.Stepping.{leveled, in_place, still_closes, err_on, on_err}
-use Rattle.psos_core.proofs.Reached.{done, can_call, room, event_call}
-use Rattle.psos_core.proofs.Moved.{lock_is, held_is, read_back, longer_is, called_is, below, same_is, stayed, made_plan, made_next, made, made_stopped}
+use Rattle.psos_core.proofs.UserSlots.{found_there}
+use Rattle.psos_core.proofs.EventStep.{leveled, in_place, still_closes, err_on, on_err}
+use Rattle.psos_core.proofs.EventRun.{done, can_call, room, event_call}
+use Rattle.psos_core.proofs.EventParts.{lock_is, held_is, read_back, longer_is, called_is, below, same_is, stayed, made_plan, made_next, made, made_stopped}
 use Rattle.psos_core.proofs.step.take_or_call.Goals as goal
 
 pub lock_of-lock-requires : goal.lock_of-lock-requires

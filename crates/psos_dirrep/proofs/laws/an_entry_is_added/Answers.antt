@@ -1,4 +1,4 @@
-use Rattle.psos_dirrep.proofs.Rules.{entry-added}
+use Rattle.psos_dirrep.proofs.EntryChanges.{entry-added}
 use Rattle.psos_dirrep.proofs.laws.an_entry_is_added.Goals as goal
 
 pub returns : goal.returns

@@ -1,4 +1,4 @@
-use Rattle.psos_dirrep.proofs.NeverUsed.{never-slots, never-parts}
+use Rattle.psos_dirrep.proofs.NeverUsedSlots.{never-slots, never-parts}
 use Rattle.psos_dirrep.proofs.laws.never_used_is_seen.Goals as goal
 
 pub returns-clause-slots : goal.returns-clause-slots

@@ -1,4 +1,4 @@
-use Rattle.psos_text.proofs.Firsts.{NoneBefore, is_byte}
+use Rattle.psos_text.proofs.FirstPlaces.{NoneBefore, is_byte}
 use Rattle.psos_dirrep.proofs.names.first_zero.Given as goal
 
 -- no zero stands before this place

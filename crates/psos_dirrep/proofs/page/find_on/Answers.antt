@@ -2,7 +2,7 @@ use Rattle.std.proofs.Common.{ℕ, ap, ◌∙◌}
 use Rattle.psos_words.specs.Directory.{name_high}
 use Rattle.psos_dirrep.specs.Pages.{slots_in}
 use Rattle.psos_dirrep.specs.Scan.{scan}
-use Rattle.psos_dirrep.proofs.Finds.{scan-find}
+use Rattle.psos_dirrep.proofs.SlotSearch.{scan-find}
 use Rattle.psos_dirrep.proofs.page.find_on.Goals as goal
 
 pub returns-clause-found : goal.returns-clause-found

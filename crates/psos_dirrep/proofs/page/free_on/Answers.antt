@@ -1,6 +1,6 @@
 use Rattle.std.proofs.Common.{◌∙◌}
 use Rattle.psos_dirrep.specs.Pages.{slots_in}
-use Rattle.psos_dirrep.proofs.Finds.{scan-free}
+use Rattle.psos_dirrep.proofs.SlotSearch.{scan-free}
 use Rattle.psos_dirrep.proofs.page.free_on.Goals as goal
 
 pub returns-clause-place : goal.returns-clause-place

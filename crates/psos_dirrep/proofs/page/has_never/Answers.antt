@@ -1,7 +1,7 @@
 use Rattle.std.proofs.Common.{◌*◌, ◌+◌, Bool, true, cond, drop, sym, ap, ◌∙◌, arith}
 use Rattle.psos_words.specs.Directory.{has_never}
 use Rattle.psos_dirrep.specs.Scan.{is_never}
-use Rattle.psos_dirrep.proofs.Scans.{never-step}
+use Rattle.psos_dirrep.proofs.PageSearch.{never-step}
 use Rattle.psos_dirrep.proofs.page.has_never.Goals as goal
 
 pub returns-then-is_never : goal.returns-then-is_never

@@ -1,6 +1,6 @@
 use Rattle.std.proofs.Common.{◌*◌, drop}
 use Rattle.psos_words.specs.Directory.{has_never}
-use Rattle.psos_dirrep.proofs.Scans.{HasCome}
+use Rattle.psos_dirrep.proofs.PageSearch.{HasCome}
 use Rattle.psos_dirrep.proofs.page.has_never.Given as goal
 
 -- what is left to search tells what the whole page tells

@@ -1,7 +1,7 @@
 use Rattle.std.proofs.Common.{◌*◌, ◌+◌, drop, sym, ap, ◌∙◌, arith}
 use Rattle.psos_dirrep.specs.declared.look.Look.{Look}
 use Rattle.psos_dirrep.specs.Scan.{scanned, scan}
-use Rattle.psos_dirrep.proofs.Scans.{scan-step}
+use Rattle.psos_dirrep.proofs.PageSearch.{scan-step}
 use Rattle.psos_dirrep.proofs.page.scan.Goals as goal
 
 pub slots-preserved : goal.slots-preserved

@@ -1,6 +1,6 @@
 use Rattle.std.proofs.Common.{◌*◌, ◌+◌, Bool, cond, drop, Some, sym, ap, ◌∙◌, arith}
 use Rattle.psos_dirrep.specs.Scan.{is_free, scan_free}
-use Rattle.psos_dirrep.proofs.Scans.{free-step}
+use Rattle.psos_dirrep.proofs.PageSearch.{free-step}
 use Rattle.psos_dirrep.proofs.page.scan_free.Goals as goal
 
 pub returns-then-is_free-clause-place : goal.returns-then-is_free-clause-place

@@ -1,6 +1,6 @@
 use Rattle.std.proofs.Common.{◌*◌, drop}
 use Rattle.psos_dirrep.specs.Scan.{scan_free}
-use Rattle.psos_dirrep.proofs.Scans.{HasCome}
+use Rattle.psos_dirrep.proofs.PageSearch.{HasCome}
 use Rattle.psos_dirrep.proofs.page.scan_free.Given as goal
 
 -- what is left to search tells what the whole page tells

@@ -1,4 +1,4 @@
-use Rattle.psos_events.proofs.Able as able
+use Rattle.psos_events.proofs.EventConditions as able
 use Rattle.psos_events.proofs.laws.boot_is_core_start.Goals as goal
 
 pub returns : goal.returns

@@ -1,4 +1,4 @@
-use Rattle.psos_events.proofs.Committed as committed
+use Rattle.psos_events.proofs.CommittedValues as committed
 use Rattle.psos_events.proofs.laws.closes_commit.Goals as goal
 
 pub returns : goal.returns

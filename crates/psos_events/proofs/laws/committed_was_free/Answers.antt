@@ -1,4 +1,4 @@
-use Rattle.psos_events.proofs.Committed as committed
+use Rattle.psos_events.proofs.CommittedValues as committed
 use Rattle.psos_events.proofs.laws.committed_was_free.Goals as goal
 
 pub returns : goal.returns

@@ -1,4 +1,4 @@
-use Rattle.psos_events.proofs.Kept as kept
+use Rattle.psos_events.proofs.ReplayInvariant as kept
 use Rattle.psos_events.proofs.laws.events_are_serial.Goals as goal
 
 pub returns : goal.returns

@@ -1,4 +1,4 @@
-use Rattle.psos_events.proofs.Able as able
+use Rattle.psos_events.proofs.EventConditions as able
 use Rattle.psos_events.proofs.laws.events_commit.Goals as goal
 
 pub returns : goal.returns

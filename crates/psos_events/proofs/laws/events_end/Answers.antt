@@ -1,4 +1,4 @@
-use Rattle.psos_events.proofs.Ended as ended
+use Rattle.psos_events.proofs.EndState as ended
 use Rattle.psos_events.proofs.laws.events_end.Goals as goal
 
 pub returns : goal.returns

@@ -1,4 +1,4 @@
-use Rattle.psos_events.proofs.Measured as measured
+use Rattle.psos_events.proofs.EventBound as measured
 use Rattle.psos_events.proofs.laws.events_go_on.Goals as goal
 
 pub returns : goal.returns

@@ -1,4 +1,4 @@
-use Rattle.psos_events.proofs.Turns as turns
+use Rattle.psos_events.proofs.TurnsOrder as turns
 use Rattle.psos_events.proofs.laws.one_turns_order.Goals as goal
 
 pub returns : goal.returns

@@ -1,6 +1,6 @@
 use Rattle.std.proofs.Common.{arith, ◌+◌, take}
 use Rattle.std.specs.Io.KnownBytes.{Appends}
-use Rattle.psos_io.proofs.Known.{appends_more, take_on}
+use Rattle.psos_io.proofs.KnownBytes.{appends_more, take_on}
 use Rattle.psos_io.proofs.transfer.put_all.Goals as goal
 
 pub pieces-preserved : goal.pieces-preserved

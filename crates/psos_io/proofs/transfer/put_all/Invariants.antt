@@ -1,5 +1,5 @@
 use Rattle.std.proofs.Common.{◌-◌, length}
-use Rattle.psos_io.proofs.Known.{HasWritten}
+use Rattle.psos_io.proofs.KnownBytes.{HasWritten}
 use Rattle.psos_io.proofs.transfer.put_all.Given as goal
 
 abbrev pub invariant-pieces : goal.invariant-pieces

@@ -1,5 +1,5 @@
 use Rattle.std.proofs.Common.{◌-◌, vec_len}
-use Rattle.psos_io.proofs.Known.{HasRead}
+use Rattle.psos_io.proofs.KnownBytes.{HasRead}
 use Rattle.psos_io.proofs.transfer.read_all.Given as goal
 
 abbrev pub invariant-pieces : goal.invariant-pieces

@@ -1,5 +1,5 @@
 use Rattle.std.proofs.Common.{refl}
-use Rattle.psos_journal.proofs.Zeros.{one_more_zero}
+use Rattle.psos_journal.proofs.ZeroLists.{one_more_zero}
 use Rattle.psos_journal.proofs.opening.open_all.Goals as goal
 
 pub returns-clause-totals : goal.returns-clause-totals

@@ -1,7 +1,7 @@
 use Rattle.std.proofs.Common.{refl, sym, ◌∙◌, ap, length, [], ◌∷◌, Some}
 use Rattle.psos_journal.specs.Cells.{entries_in}
 use Rattle.psos_journal.proofs.Beginnings.{entries_in-append}
-use Rattle.psos_journal.proofs.KeepRule.{adds_moves}
+use Rattle.psos_journal.proofs.StepRule.{adds_moves}
 use Rattle.psos_journal.proofs.steps.fill.Goals as goal
 
 pub compare_exchange-requires : goal.compare_exchange-requires

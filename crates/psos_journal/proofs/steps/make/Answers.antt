@@ -1,5 +1,5 @@
 use Rattle.std.proofs.Common.{sym, ◌∙◌, ap}
-use Rattle.psos_journal.proofs.KeepRule.{makes_moves}
+use Rattle.psos_journal.proofs.StepRule.{makes_moves}
 use Rattle.psos_journal.proofs.steps.make.Goals as goal
 
 pub compare_exchange-found-requires : goal.compare_exchange-found-requires

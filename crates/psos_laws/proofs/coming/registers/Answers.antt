@@ -1,6 +1,6 @@
 use Rattle.std.proofs.Common.{arith, length-set, ◌∙◌}
-use Rattle.psos_calls.specs.User.{here}
-use Rattle.psos_laws.proofs.ArrivalsWords.{one_more}
+use Rattle.psos_calls.specs.Language.User.{here}
+use Rattle.psos_laws.proofs.WordLists.{one_more}
 use Rattle.psos_laws.proofs.coming.registers.Goals as goal
 
 pub registers-preserved : goal.registers-preserved

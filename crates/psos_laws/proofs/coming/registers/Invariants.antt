@@ -1,6 +1,6 @@
 use Rattle.std.proofs.Common.{◌≡◌, ◌<◌, ℕ, length}
 use Rattle.psos_words.specs.Words.{word_at}
-use Rattle.psos_calls.specs.User.{here}
+use Rattle.psos_calls.specs.Language.User.{here}
 use Rattle.psos_laws.proofs.coming.registers.Given as goal
 
 abbrev pub invariant-registers : goal.invariant-registers

@@ -1,6 +1,6 @@
 use Rattle.std.proofs.Common.{arith, inl, inr, sym, ◌∙◌}
 use Rattle.std.proofs.lemmas.Option.{slice_get_within}
-use Rattle.psos_laws.proofs.ArrivalsWords.{no_register, caller_register}
+use Rattle.psos_laws.proofs.WordLists.{no_register, caller_register}
 use Rattle.psos_laws.proofs.held.frame_cap.Goals as goal
 use Rattle.psos_laws.proofs.held.frame_cap.Goals.{then-i-ge16-via-then-i-ge16, then-i-ge16-via-else-i-ge16+then-depth-open}
 

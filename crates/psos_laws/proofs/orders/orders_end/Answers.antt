@@ -1,4 +1,4 @@
-use Rattle.psos_laws.proofs.OrdersEnd.{orders_end}
+use Rattle.psos_laws.proofs.OrderLengths.{orders_end}
 use Rattle.psos_laws.proofs.orders.orders_end.Goals as goal
 
 pub returns : goal.returns

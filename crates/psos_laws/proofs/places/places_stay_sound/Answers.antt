@@ -1,4 +1,4 @@
-use Rattle.psos_laws.proofs.PlacesKept.{places_kept}
+use Rattle.psos_laws.proofs.PlaceGuards.{places_kept}
 use Rattle.psos_laws.proofs.places.places_stay_sound.Goals as goal
 
 pub returns : goal.returns

@@ -1,4 +1,4 @@
-use Rattle.psos_laws.proofs.Shared.{shared_kept_by}
+use Rattle.psos_laws.proofs.SharedAnswers.{shared_kept_by}
 use Rattle.psos_laws.proofs.sound.shared_stays_sound.Goals as goal
 
 pub returns : goal.returns

@@ -1,4 +1,4 @@
-use Rattle.psos_laws.proofs.UsersStep.{can_step}
+use Rattle.psos_laws.proofs.RoomToStep.{can_step}
 use Rattle.psos_laws.proofs.starts.sound_can_step.Goals as goal
 
 pub returns : goal.returns

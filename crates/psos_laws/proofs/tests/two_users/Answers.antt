@@ -1,7 +1,7 @@
 use Rattle.std.proofs.Common.{◌≡◌, List, [], ◌∷◌, ◌++◌, length, sym, ap, subst, ◌∙◌, arith}
 use Rattle.std.specs.Prelude.{map}
 use Rattle.std.specs.List.{AllByRecursion}
-use Rattle.psos_calls.specs.Script.{Script, UserScript, CodeBlock, IsUserScript, IsCodeBlock, AreDistinct, IsWellFormed}
+use Rattle.psos_calls.specs.Language.Script.{Script, UserScript, CodeBlock, IsUserScript, IsCodeBlock, AreDistinct, IsWellFormed}
 use Rattle.psos_laws.proofs.tests.two_users.Goals as goal
 
 -- a script of two users, with names of 5 and 3 bytes, and no code

@@ -1,4 +1,4 @@
-use Rattle.psos_load.proofs.Left.{left_next}
+use Rattle.psos_load.proofs.LinesLeft.{left_next}
 use Rattle.psos_load.proofs.script.put_lines.Goals as goal
 
 pub lines-preserved : goal.lines-preserved

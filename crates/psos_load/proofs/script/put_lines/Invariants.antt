@@ -1,4 +1,4 @@
-use Rattle.psos_load.proofs.Left.{IsLeft}
+use Rattle.psos_load.proofs.LinesLeft.{IsLeft}
 use Rattle.psos_load.proofs.script.put_lines.Given as goal
 
 -- what was written and the lines that are left are all of them

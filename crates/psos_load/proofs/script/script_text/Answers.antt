@@ -1,8 +1,8 @@
 use Rattle.std.proofs.Common.{◌≡◌, ℕ, ◌-◌, List, ◌++◌, ap, sym, ◌∙◌, subst, append-nil, arith}
-use Rattle.psos_model.specs.Load.{load_users, load_text}
-use Rattle.psos_model.specs.Spelling.{IsScript}
+use Rattle.psos_model.specs.Text.Load.{load_users, load_text}
+use Rattle.psos_model.specs.Text.Spelling.{IsScript}
 use Rattle.psos_load.specs.Made.{made_script}
-use Rattle.psos_load.proofs.Left.{users_next}
+use Rattle.psos_load.proofs.LinesLeft.{users_next}
 use Rattle.psos_load.proofs.Users.{text_spells_script}
 use Rattle.psos_load.proofs.script.script_text.Goals as goal
 

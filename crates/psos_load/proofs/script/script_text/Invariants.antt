@@ -1,5 +1,5 @@
 use Rattle.std.proofs.Common.{◌≡◌, ◌-◌, ◌++◌}
-use Rattle.psos_model.specs.Load.{load_users, load_text}
+use Rattle.psos_model.specs.Text.Load.{load_users, load_text}
 use Rattle.psos_load.proofs.script.script_text.Given as goal
 
 -- what was written and the users that are left are the whole text

@@ -1,5 +1,5 @@
 use Rattle.std.proofs.Common.{sym, ◌∙◌}
-use Rattle.psos_model.proofs.Found.{found_here}
+use Rattle.psos_model.proofs.NameSearch.{found_here}
 use Rattle.psos_model.proofs.answer_dir.+find_from.Goals as goal
 
 pub returns-in-Some-clause-value : goal.returns-in-Some-clause-value

@@ -1,4 +1,4 @@
-use Rattle.psos_model.proofs.AboveAnswers.{never_falls, at_most_two}
+use Rattle.psos_model.proofs.AnswerBounds.{never_falls, at_most_two}
 use Rattle.psos_model.proofs.laws.next_rises_by_two.Goals as goal
 
 pub returns : goal.returns

@@ -1,4 +1,4 @@
-use Rattle.psos_model.proofs.AboveAnswers.{no_changes, no_effect}
+use Rattle.psos_model.proofs.AnswerBounds.{no_changes, no_effect}
 use Rattle.psos_model.proofs.laws.refusals_do_nothing.Goals as goal
 
 pub returns : goal.returns

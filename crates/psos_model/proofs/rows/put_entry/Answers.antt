@@ -1,5 +1,5 @@
 use Rattle.std.proofs.Common.{sym, ap, ◌∙◌}
-use Rattle.psos_model.proofs.TakenBack.{edit_same, on_err, renamed}
+use Rattle.psos_model.proofs.UndoneChanges.{edit_same, on_err, renamed}
 use Rattle.psos_table.specs.Table.{edit}
 use Rattle.psos_model.proofs.rows.put_entry.Goals as goal
 

@@ -1,5 +1,5 @@
 use Rattle.std.proofs.Common.{◌≡◌, ◌+◌, ◌-◌, length, sym, arith}
-use Rattle.psos_pages.proofs.Written.{written-parts}
+use Rattle.psos_pages.proofs.WordWriting.{written-parts}
 use Rattle.psos_pages.proofs.words.put_four.Goals as goal
 
 pub returns : goal.returns

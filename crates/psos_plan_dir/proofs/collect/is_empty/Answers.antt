@@ -1,7 +1,7 @@
 use Rattle.std.proofs.Common.{List, sym, ap, ◌∙◌}
 use Rattle.psos_words.specs.Directory.{Slot, entries_in}
-use Rattle.psos_calls.specs.PlanLife.{no_entry}
-use Rattle.psos_plan_dir.proofs.Collecting.{past-slots}
+use Rattle.psos_calls.specs.Plan.Objects.{no_entry}
+use Rattle.psos_plan_dir.proofs.NameLists.{past-slots}
 use Rattle.psos_plan_dir.proofs.collect.is_empty.Goals as goal
 
 pub returns : goal.returns

@@ -1,7 +1,7 @@
 use Rattle.std.proofs.Common.{◌≡◌, drop}
 use Rattle.psos_words.specs.Directory.{entries_in}
 use Rattle.psos_dirrep.specs.Pages.{slots_in}
-use Rattle.psos_calls.specs.PlanLife.{no_entry}
+use Rattle.psos_calls.specs.Plan.Objects.{no_entry}
 use Rattle.psos_plan_dir.proofs.collect.is_empty.Given as goal
 
 -- what is left to look at tells what the whole page tells

@@ -5,7 +5,7 @@ use Rattle.psos_words.specs.declared.word.Word.TheVariants.{Data}
 use Rattle.psos_words.specs.Words.{word_at}
 use Rattle.psos_words.specs.Directory.{Slot}
 use Rattle.psos_plan_dir.specs.Collected.{name_in}
-use Rattle.psos_plan_dir.proofs.Collecting.{at-place, is_cap, cap-used}
+use Rattle.psos_plan_dir.proofs.NameLists.{at-place, is_cap, cap-used}
 use Rattle.psos_plan_dir.proofs.collect.is_used.Goals as goal
 
 pub returns-in-Cap : goal.returns-in-Cap

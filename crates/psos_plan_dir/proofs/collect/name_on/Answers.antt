@@ -4,7 +4,7 @@ use Rattle.psos_words.specs.declared.word.Word.{Word}
 use Rattle.psos_words.specs.declared.word.Word.TheVariants.{Data}
 use Rattle.psos_words.specs.Words.{word_at}
 use Rattle.psos_plan_dir.specs.Collected.{name_in, read_name, IsNamed}
-use Rattle.psos_plan_dir.proofs.Collecting.{at-place, name-read, is-named}
+use Rattle.psos_plan_dir.proofs.NameLists.{at-place, name-read, is-named}
 use Rattle.psos_plan_dir.proofs.collect.name_on.Goals as goal
 
 pub read_name-requires : goal.read_name-requires

@@ -1,7 +1,7 @@
 use Rattle.std.proofs.Common.{List, sym, ap, arith}
 use Rattle.psos_words.specs.Directory.{Slot}
 use Rattle.psos_plan_dir.specs.Collected.{with_names}
-use Rattle.psos_plan_dir.proofs.Collecting.{past-slots}
+use Rattle.psos_plan_dir.proofs.NameLists.{past-slots}
 use Rattle.psos_plan_dir.proofs.collect.put_names.Goals as goal
 
 pub slots-init : goal.slots-init

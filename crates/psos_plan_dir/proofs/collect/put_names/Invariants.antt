@@ -1,6 +1,6 @@
 use Rattle.std.proofs.Common.{drop}
 use Rattle.psos_dirrep.specs.Pages.{slots_in}
-use Rattle.psos_plan_dir.proofs.Collecting.{HasPut}
+use Rattle.psos_plan_dir.proofs.NameLists.{HasPut}
 use Rattle.psos_plan_dir.specs.Collected.{with_names}
 use Rattle.psos_plan_dir.proofs.collect.put_names.Given as goal
 

@@ -5,12 +5,12 @@ use Rattle.psos_calls.specs.declared.level.Level.TheVariants.{L7}
 use Rattle.psos_calls.specs.declared.level_call.LevelCall.TheVariants.{FourPut}
 use Rattle.psos_calls.specs.declared.next.Next.TheVariants.{Call}
 use Rattle.psos_calls.specs.declared.step.Step.{Step}
-use Rattle.psos_calls.specs.User.{here}
+use Rattle.psos_calls.specs.Language.User.{here}
 use Rattle.psos_calls.specs.Plan.{refuse, if_done}
-use Rattle.psos_calls.specs.PlanParts.{put_slot, fine}
-use Rattle.psos_calls.specs.Trace.{followed, next_of}
+use Rattle.psos_calls.specs.Plan.Parts.{put_slot, fine}
+use Rattle.psos_calls.specs.Plan.Trace.{followed, next_of}
 use Rattle.psos_plan_dir.specs.Reads.{IsRun}
-use Rattle.psos_plan_dir.proofs.Plans.{bind-front, bind-next, bind-read, bind-run, bind_in, bind-ends, written-is, asks-next, next-by, room-ok, room-err}
+use Rattle.psos_plan_dir.proofs.DirectoryPlans.{bind-front, bind-next, bind-read, bind-run, bind_in, bind-ends, written-is, asks-next, next-by, room-ok, room-err}
 use Rattle.psos_plan_dir.proofs.directories.next_bind.Goals as goal
 
 pub read_dir-requires : goal.read_dir-requires

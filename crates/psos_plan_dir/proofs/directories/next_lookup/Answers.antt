@@ -3,11 +3,11 @@ use Rattle.psos_caps.specs.Capability.{Capability}
 use Rattle.psos_words.specs.declared.word.Word.TheVariants.{Cap}
 use Rattle.psos_words.specs.Words.{word_at}
 use Rattle.psos_words.specs.Directory.{find}
-use Rattle.psos_calls.specs.User.{here}
+use Rattle.psos_calls.specs.Language.User.{here}
 use Rattle.psos_calls.specs.declared.refusal.Refusal.TheVariants.{UnknownName}
 use Rattle.psos_calls.specs.declared.right.Right.TheVariants.{Lookup}
 use Rattle.psos_calls.specs.Plan.{refuse, give}
-use Rattle.psos_plan_dir.proofs.Plans.{opens-front, opens-next, opens-read, lookup_in, lookup-apart, if-found, if-missing, next-by}
+use Rattle.psos_plan_dir.proofs.DirectoryPlans.{opens-front, opens-next, opens-read, lookup_in, lookup-apart, if-found, if-missing, next-by}
 use Rattle.psos_plan_dir.proofs.directories.next_lookup.Goals as goal
 
 pub open_dir-requires : goal.open_dir-requires

@@ -5,13 +5,13 @@ use Rattle.psos_words.specs.Directory.{find, gone_words}
 use Rattle.psos_calls.specs.declared.refusal.Refusal.TheVariants.{UnknownName, Distinguished}
 use Rattle.psos_calls.specs.declared.right.Right.TheVariants.{Unbind}
 use Rattle.psos_calls.specs.declared.step.Step.{Step}
-use Rattle.psos_calls.specs.User.{here}
+use Rattle.psos_calls.specs.Language.User.{here}
 use Rattle.psos_calls.specs.Plan.{refuse}
-use Rattle.psos_calls.specs.PlanParts.{put_slot, fine}
-use Rattle.psos_calls.specs.Tests.{if_holds}
-use Rattle.psos_calls.specs.Trace.{followed, next_of}
+use Rattle.psos_calls.specs.Plan.Parts.{put_slot, fine}
+use Rattle.psos_calls.specs.Language.Tests.{if_holds}
+use Rattle.psos_calls.specs.Plan.Trace.{followed, next_of}
 use Rattle.psos_plan_dir.specs.Reads.{IsRun}
-use Rattle.psos_plan_dir.proofs.Plans.{opens-front, opens-next, opens-read, opens-run, unbind_in, unbind-ends, writing-apart, written-is, if-found, if-missing, next-by, nothing-is, followed-none}
+use Rattle.psos_plan_dir.proofs.DirectoryPlans.{opens-front, opens-next, opens-read, opens-run, unbind_in, unbind-ends, writing-apart, written-is, if-found, if-missing, next-by, nothing-is, followed-none}
 use Rattle.psos_plan_dir.proofs.directories.next_unbind.Goals as goal
 
 pub open_dir-requires : goal.open_dir-requires

@@ -5,10 +5,10 @@ use Rattle.psos_calls.specs.declared.effect.Effect.TheVariants.{Nothing}
 use Rattle.psos_calls.specs.declared.next.Next.TheVariants.{Close}
 use Rattle.psos_calls.specs.declared.reply.Reply.TheVariants.{Names}
 use Rattle.psos_calls.specs.declared.right.Right.TheVariants as rights
-use Rattle.psos_calls.specs.User.{here}
+use Rattle.psos_calls.specs.Language.User.{here}
 use Rattle.psos_plan_dir.specs.Listing.{TellsNames}
-use Rattle.psos_plan_dir.proofs.Collecting.{err-then}
-use Rattle.psos_plan_dir.proofs.Plans.{opens-front, opens-left, opens-next, opens-read, list_in}
+use Rattle.psos_plan_dir.proofs.NameLists.{err-then}
+use Rattle.psos_plan_dir.proofs.DirectoryPlans.{opens-front, opens-left, opens-next, opens-read, list_in}
 use Rattle.psos_plan_dir.proofs.listing.next_list.Goals as goal
 
 pub open_dir-requires : goal.open_dir-requires

@@ -1,5 +1,5 @@
 use Rattle.std.proofs.Common.{rules}
-use Rattle.psos_text.proofs.Firsts.{first_is, none_is, is_byte}
+use Rattle.psos_text.proofs.FirstPlaces.{first_is, none_is, is_byte}
 use Rattle.psos_plan_dir.proofs.names.first_zero.Goals as goal
 
 pub returns-then-b-eq0-clause-at : goal.returns-then-b-eq0-clause-at

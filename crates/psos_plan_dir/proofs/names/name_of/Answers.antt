@@ -3,7 +3,7 @@ use Rattle.std.specs.List.{before_first}
 use Rattle.psos_text.specs.Name.{name_of, is_name, name_text}
 use Rattle.psos_words.specs.Directory.{name_from}
 use Rattle.psos_dirrep.proofs.NameBytes.{filled-named, read-err, read-ok}
-use Rattle.psos_plan_dir.proofs.Collecting.{filled-of}
+use Rattle.psos_plan_dir.proofs.NameLists.{filled-of}
 use Rattle.psos_plan_dir.proofs.names.name_of.Goals as goal
 
 pub unreachable-requires : goal.unreachable-requires

@@ -2,10 +2,10 @@ use Rattle.std.proofs.Common.{◌≡◌, List, sym, subst}
 use Rattle.psos_calls.specs.declared.request.Request.{Request}
 use Rattle.psos_calls.specs.declared.step.Step.{Step}
 use Rattle.psos_calls.specs.Levels.{Levels}
-use Rattle.psos_calls.specs.Lists.{HasLists}
-use Rattle.psos_calls.specs.PlanOf.{plan_of}
-use Rattle.psos_calls.specs.Trace.{IsTraceOf}
-use Rattle.psos_calls.specs.User.{User}
+use Rattle.psos_calls.specs.Levels.Lists.{HasLists}
+use Rattle.psos_calls.specs.Plan.Requests.{plan_of}
+use Rattle.psos_calls.specs.Plan.Trace.{IsTraceOf}
+use Rattle.psos_calls.specs.Language.User.{User}
 use Rattle.psos_plan_dir.specs.Reads.{IsRun}
 use Rattle.psos_plan_dir.proofs.plan.next.Goals as goal
 

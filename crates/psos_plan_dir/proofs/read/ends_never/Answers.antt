@@ -1,7 +1,7 @@
 use Rattle.std.proofs.Common.{[], sym, ap, ◌∙◌}
 use Rattle.psos_words.specs.Directory.{has_never}
 use Rattle.psos_plan_dir.specs.Pages.{page_in}
-use Rattle.psos_plan_dir.proofs.Walk.{last-is, no-page}
+use Rattle.psos_plan_dir.proofs.PageWalk.{last-is, no-page}
 use Rattle.psos_plan_dir.proofs.read.ends_never.Goals as goal
 
 pub returns-in-Whole : goal.returns-in-Whole

@@ -1,9 +1,9 @@
 use Rattle.std.proofs.Common.{ℕ, List, ◌∷◌, sym, subst}
 use Rattle.psos_calls.specs.declared.step.Step.{Step}
-use Rattle.psos_calls.specs.PlanParts.{read_dir}
+use Rattle.psos_calls.specs.Plan.Parts.{read_dir}
 use Rattle.psos_plan_dir.specs.Reads.{open_with, IsCapFront, IsDirFront, Reads}
-use Rattle.psos_plan_dir.proofs.Readers.{guard-on, dir-front}
-use Rattle.psos_plan_dir.proofs.Steps.{reads-on}
+use Rattle.psos_plan_dir.proofs.DirectoryReaders.{guard-on, dir-front}
+use Rattle.psos_plan_dir.proofs.PlanSteps.{reads-on}
 use Rattle.psos_plan_dir.proofs.read.open_dir.Goals as goal
 
 pub read_dir-requires : goal.read_dir-requires

@@ -1,9 +1,9 @@
 use Rattle.std.proofs.Common.{List, ◌∷◌, sym, subst}
 use Rattle.psos_calls.specs.declared.step.Step.{Step}
-use Rattle.psos_calls.specs.PlanParts.{read_dir, read_rep}
+use Rattle.psos_calls.specs.Plan.Parts.{read_dir, read_rep}
 use Rattle.psos_plan_dir.specs.Reads.{IsDirFront, Reads}
-use Rattle.psos_plan_dir.proofs.Readers.{rep-on, rep-front}
-use Rattle.psos_plan_dir.proofs.Steps.{reads-on}
+use Rattle.psos_plan_dir.proofs.DirectoryReaders.{rep-on, rep-front}
+use Rattle.psos_plan_dir.proofs.PlanSteps.{reads-on}
 use Rattle.psos_plan_dir.proofs.read.read_dir.Goals as goal
 
 pub read_rep-requires : goal.read_rep-requires

@@ -1,5 +1,5 @@
 use Rattle.std.proofs.Common.{sym, ap, ◌∙◌, take, drop}
-use Rattle.psos_plan_dir.proofs.Readers.{slot-more, slot-open, slot-read}
+use Rattle.psos_plan_dir.proofs.DirectoryReaders.{slot-more, slot-open, slot-read}
 use Rattle.psos_plan_dir.proofs.read.read_pages.Goals as goal
 
 pub returns-then-is_more : goal.returns-then-is_more

@@ -1,9 +1,9 @@
 use Rattle.std.proofs.Common.{[], List, ◌∷◌, sym, subst}
 use Rattle.psos_calls.specs.declared.step.Step.{Step}
-use Rattle.psos_calls.specs.PlanParts.{read_pages, read_rep}
+use Rattle.psos_calls.specs.Plan.Parts.{read_pages, read_rep}
 use Rattle.psos_plan_dir.specs.Reads.{IsRepFront, Reads}
-use Rattle.psos_plan_dir.proofs.Readers.{slot-on, slot-front}
-use Rattle.psos_plan_dir.proofs.Steps.{reads-on}
+use Rattle.psos_plan_dir.proofs.DirectoryReaders.{slot-on, slot-front}
+use Rattle.psos_plan_dir.proofs.PlanSteps.{reads-on}
 use Rattle.psos_plan_dir.proofs.read.read_rep.Goals as goal
 
 pub read_pages-requires : goal.read_pages-requires

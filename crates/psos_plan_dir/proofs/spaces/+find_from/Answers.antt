@@ -1,5 +1,5 @@
 use Rattle.std.proofs.Common.{◌∙◌, arith}
-use Rattle.psos_plan_dir.proofs.Finding.{find-asks, passed-run, passed-left, find-front, find-next, found-left, missing-run, missing-left}
+use Rattle.psos_plan_dir.proofs.FindPlan.{find-asks, passed-run, passed-left, find-front, find-next, found-left, missing-run, missing-left}
 use Rattle.psos_plan_dir.proofs.spaces.+find_from.Goals as goal
 
 pub returns-in_default : goal.returns-in_default

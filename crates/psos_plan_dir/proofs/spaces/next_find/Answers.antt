@@ -1,11 +1,11 @@
 use Rattle.std.proofs.Common.{ℕ, List, drop, ap, sym, subst, ◌∙◌}
 use Rattle.psos_caps.specs.Capability.{Capability}
 use Rattle.psos_calls.specs.declared.step.Step.{Step}
-use Rattle.psos_calls.specs.PlanDir.{plan_find}
-use Rattle.psos_calls.specs.Trace.{followed, next_of}
+use Rattle.psos_calls.specs.Plan.Directories.{plan_find}
+use Rattle.psos_calls.specs.Plan.Trace.{followed, next_of}
 use Rattle.psos_plan_dir.specs.Asked.{asked}
 use Rattle.psos_plan_dir.specs.Reads.{IsRun}
-use Rattle.psos_plan_dir.proofs.Finding.{resumed}
+use Rattle.psos_plan_dir.proofs.FindPlan.{resumed}
 use Rattle.psos_plan_dir.proofs.spaces.next_find.Goals as goal
 
 pub find_from-requires-clause-run : goal.find_from-requires-clause-run

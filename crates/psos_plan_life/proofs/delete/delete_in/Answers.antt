@@ -1,8 +1,8 @@
 use Rattle.std.proofs.Common.{ℕ, sym, subst}
-use Rattle.psos_calls.specs.Trace.{IsTraceOf}
+use Rattle.psos_calls.specs.Plan.Trace.{IsTraceOf}
 use Rattle.psos_plan_life.specs.Deletes.{kind_dropped, forgotten}
-use Rattle.psos_plan_life.proofs.Behind.{passed}
-use Rattle.psos_plan_life.proofs.Deleting.{After}
+use Rattle.psos_plan_life.proofs.PlanSequence.{passed}
+use Rattle.psos_plan_life.proofs.DeletePlan.{After}
 use Rattle.psos_plan_life.proofs.delete.delete_in.Goals as goal
 
 pub kind_gone-requires : goal.kind_gone-requires

@@ -1,9 +1,9 @@
 use Rattle.std.proofs.Common.{sym, ap, ◌∙◌}
 use Rattle.std.proofs.lemmas.Option.{same_Some}
 use Rattle.psos_words.specs.Directory.{Found, gone_words}
-use Rattle.psos_calls.specs.PlanParts.{put_slot, fine}
-use Rattle.psos_plan_life.proofs.Behind.{passed}
-use Rattle.psos_plan_life.proofs.Making.{same_uid}
+use Rattle.psos_calls.specs.Plan.Parts.{put_slot, fine}
+use Rattle.psos_plan_life.proofs.PlanSequence.{passed}
+use Rattle.psos_plan_life.proofs.CreationPlans.{same_uid}
 use Rattle.psos_plan_life.proofs.delete.forget.Goals as goal
 
 pub returns-in-Ok : goal.returns-in-Ok

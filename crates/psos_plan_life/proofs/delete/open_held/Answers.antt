@@ -1,5 +1,5 @@
-use Rattle.psos_plan_dir.proofs.Steps.{reads-on}
-use Rattle.psos_plan_life.proofs.Deleting.{held_stops, held_stops_later, held_goes_on, held_opens}
+use Rattle.psos_plan_dir.proofs.PlanSteps.{reads-on}
+use Rattle.psos_plan_life.proofs.DeletePlan.{held_stops, held_stops_later, held_goes_on, held_opens}
 use Rattle.psos_plan_life.proofs.delete.open_held.Goals as goal
 
 pub returns-in-Err : goal.returns-in-Err

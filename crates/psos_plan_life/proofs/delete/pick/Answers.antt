@@ -1,4 +1,4 @@
-use Rattle.psos_plan_life.proofs.Deleting.{picked}
+use Rattle.psos_plan_life.proofs.DeletePlan.{picked}
 use Rattle.psos_plan_life.proofs.delete.pick.Goals as goal
 
 pub returns-in-Is : goal.returns-in-Is

@@ -4,11 +4,11 @@ use Rattle.psos_words.specs.Directory.{entry_words}
 use Rattle.psos_calls.specs.declared.next.Next.{Next}
 use Rattle.psos_calls.specs.declared.step.Step.{Step}
 use Rattle.psos_calls.specs.Plan.{give}
-use Rattle.psos_calls.specs.PlanParts.{enrolled, put_slot}
+use Rattle.psos_calls.specs.Plan.Parts.{enrolled, put_slot}
 use Rattle.psos_plan_life.specs.Parts.{Tells}
 use Rattle.psos_plan_life.specs.Places.{free_place}
-use Rattle.psos_plan_life.proofs.Behind.{passed}
-use Rattle.psos_plan_life.proofs.Making.{same_uid}
+use Rattle.psos_plan_life.proofs.PlanSequence.{passed}
+use Rattle.psos_plan_life.proofs.CreationPlans.{same_uid}
 use Rattle.psos_plan_life.proofs.enrol.enrol.Goals as goal
 
 pub returns-in-Ok-done : goal.returns-in-Ok-done

@@ -1,8 +1,8 @@
 use Rattle.std.proofs.Common.{refl}
 use Rattle.std.proofs.lemmas.Result.{err_from_is_err_and}
 use Rattle.psos_plan_life.specs.Parts.{object_dropped}
-use Rattle.psos_plan_life.proofs.Behind.{first_stops, second_stops, last_part, next_stops, read_gives}
-use Rattle.psos_plan_life.proofs.Deleting.{Inner, emptied_apart}
+use Rattle.psos_plan_life.proofs.PlanSequence.{first_stops, second_stops, last_part, next_stops, read_gives}
+use Rattle.psos_plan_life.proofs.DeletePlan.{Inner, emptied_apart}
 use Rattle.psos_plan_life.proofs.gone.directory_gone.Goals as goal
 
 pub read_dir-requires : goal.read_dir-requires

@@ -1,4 +1,4 @@
-use Rattle.psos_plan_life.proofs.Deleting.{empty_tells}
+use Rattle.psos_plan_life.proofs.DeletePlan.{empty_tells}
 use Rattle.psos_plan_life.proofs.gone.empty_gone.Goals as goal
 
 pub returns : goal.returns

@@ -1,5 +1,5 @@
-use Rattle.psos_calls.specs.User.{here}
-use Rattle.psos_plan_life.proofs.Making.{makes_front, makes_stop, makes_end, same_uid, mkcode_makes, trial_stops, trial_passed, trial_run}
+use Rattle.psos_calls.specs.Language.User.{here}
+use Rattle.psos_plan_life.proofs.CreationPlans.{makes_front, makes_stop, makes_end, same_uid, mkcode_makes, trial_stops, trial_passed, trial_run}
 use Rattle.psos_plan_life.proofs.makes.next_mkcode.Goals as goal
 
 pub returns-in-Err : goal.returns-in-Err

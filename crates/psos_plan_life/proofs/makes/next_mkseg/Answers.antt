@@ -1,5 +1,5 @@
-use Rattle.psos_calls.specs.User.{here}
-use Rattle.psos_plan_life.proofs.Making.{makes_front, makes_stop, makes_end, mkseg_makes}
+use Rattle.psos_calls.specs.Language.User.{here}
+use Rattle.psos_plan_life.proofs.CreationPlans.{makes_front, makes_stop, makes_end, mkseg_makes}
 use Rattle.psos_plan_life.proofs.makes.next_mkseg.Goals as goal
 
 pub make_in-requires-clause-front : goal.make_in-requires-clause-front

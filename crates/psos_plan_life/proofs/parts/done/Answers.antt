@@ -1,4 +1,4 @@
-use Rattle.psos_plan_life.proofs.Fronts.{leads}
+use Rattle.psos_plan_life.proofs.RunFronts.{leads}
 use Rattle.psos_plan_life.proofs.parts.done.Goals as goal
 
 pub returns-in_default-answer-clause-front : goal.returns-in_default-answer-clause-front

@@ -1,4 +1,4 @@
-use Rattle.psos_plan_life.proofs.Rooms.{placed, room_found}
+use Rattle.psos_plan_life.proofs.RoomSearch.{placed, room_found}
 use Rattle.psos_plan_life.proofs.place.find_place.Goals as goal
 
 pub returns : goal.returns

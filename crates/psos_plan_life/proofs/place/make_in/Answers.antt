@@ -3,10 +3,10 @@ use Rattle.std.proofs.lemmas.Result.{err_from_is_err_and}
 use Rattle.psos_caps.specs.Capability.{Capability}
 use Rattle.psos_text.specs.declared.name.Name.{Name}
 use Rattle.psos_calls.specs.Plan.{Plan}
-use Rattle.psos_calls.specs.PlanParts.{Opened}
+use Rattle.psos_calls.specs.Plan.Parts.{Opened}
 use Rattle.psos_plan_life.specs.Places.{Placed, opening, placing}
-use Rattle.psos_plan_life.proofs.Behind.{first_stops, second_stops, both_given, read_gives, next_stops}
-use Rattle.psos_plan_life.proofs.Rooms.{placing_apart}
+use Rattle.psos_plan_life.proofs.PlanSequence.{first_stops, second_stops, both_given, read_gives, next_stops}
+use Rattle.psos_plan_life.proofs.RoomSearch.{placing_apart}
 use Rattle.psos_plan_life.proofs.place.make_in.Goals as goal
 
 -- what is behind the room for one more object, and what is behind the directory

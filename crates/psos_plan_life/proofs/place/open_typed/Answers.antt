@@ -2,8 +2,8 @@ use Rattle.std.proofs.Common.{List, ◌∷◌, Some, ap, sym, subst, ◌∙◌}
 use Rattle.psos_calls.specs.declared.step.Step.{Step}
 use Rattle.psos_plan_life.specs.Places.{opening, IsOpening}
 use Rattle.psos_plan_dir.specs.Reads.{Reads}
-use Rattle.psos_plan_dir.proofs.Steps.{reads-on}
-use Rattle.psos_plan_life.proofs.Typed.{typed_front, typed_goes_on}
+use Rattle.psos_plan_dir.proofs.PlanSteps.{reads-on}
+use Rattle.psos_plan_life.proofs.TypedOpening.{typed_front, typed_goes_on}
 use Rattle.psos_plan_life.proofs.place.open_typed.Goals as goal
 
 pub read_rep-requires : goal.read_rep-requires

@@ -1,6 +1,6 @@
 use Rattle.std.proofs.lemmas.Result.{err_from_is_err_and}
 use Rattle.psos_plan_life.specs.Parts.{segment_dropped}
-use Rattle.psos_plan_life.proofs.Behind.{first_stops, last_part}
+use Rattle.psos_plan_life.proofs.PlanSequence.{first_stops, last_part}
 use Rattle.psos_plan_life.proofs.store.object_gone.Goals as goal
 
 pub returns-in_err-rep : goal.returns-in_err-rep

@@ -6,7 +6,7 @@ use Rattle.psos_caps.specs.declared.rights.Rights.{Rights}
 use Rattle.psos_calls.specs.declared.level_call.LevelCall.TheVariants.{ObjMake}
 use Rattle.psos_calls.specs.Plan.{Plan}
 use Rattle.psos_plan_life.specs.Parts.{doing, segmented}
-use Rattle.psos_plan_life.proofs.Behind.{first_stops, second_stops, last_part}
+use Rattle.psos_plan_life.proofs.PlanSequence.{first_stops, second_stops, last_part}
 use Rattle.psos_plan_life.proofs.store.representation.Goals as goal
 
 -- what is behind the new identifier

@@ -1,7 +1,7 @@
 use Rattle.std.proofs.lemmas.Result.{err_from_is_err_and}
 use Rattle.psos_calls.specs.declared.level_call.LevelCall.TheVariants.{SegMake}
 use Rattle.psos_plan_life.specs.Parts.{doing}
-use Rattle.psos_plan_life.proofs.Behind.{first_stops, last_part}
+use Rattle.psos_plan_life.proofs.PlanSequence.{first_stops, last_part}
 use Rattle.psos_plan_life.proofs.store.segment.Goals as goal
 
 pub returns-in_err-slot : goal.returns-in_err-slot

@@ -1,7 +1,7 @@
 use Rattle.std.proofs.Common.{◌≡◌, subst}
 use Rattle.psos_calls.specs.declared.request.Request.{Request}
-use Rattle.psos_calls.specs.PlanOf.{plan_of}
-use Rattle.psos_calls.specs.Trace.{IsTraceOf}
+use Rattle.psos_calls.specs.Plan.Requests.{plan_of}
+use Rattle.psos_calls.specs.Plan.Trace.{IsTraceOf}
 use Rattle.psos_plan_seg.proofs.plan.next.Goals as goal
 
 pub next_window-requires-clause-trace : goal.next_window-requires-clause-trace

@@ -1,5 +1,5 @@
 use Rattle.std.proofs.Common.{◌≡◌, ◌+◌, drop}
-use Rattle.psos_model.specs.Output.{calls_of}
+use Rattle.psos_model.specs.Text.Output.{calls_of}
 use Rattle.psos_print.proofs.done.calls.Given as goal
 
 abbrev pub invariant-entries : goal.invariant-entries

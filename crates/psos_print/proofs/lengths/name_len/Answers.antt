@@ -1,5 +1,5 @@
 use Rattle.std.proofs.Common.{◌≡◌, length, arith, ap}
-use Rattle.psos_print.proofs.Sizes.{name_few}
+use Rattle.psos_print.proofs.TextSizes.{name_few}
 use Rattle.psos_print.proofs.lengths.name_len.Goals as goal
 
 pub returns-clause-few : goal.returns-clause-few

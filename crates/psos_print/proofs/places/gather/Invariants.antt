@@ -1,5 +1,5 @@
 use Rattle.std.proofs.Common.{◌≡◌, drop, map}
-use Rattle.psos_print.proofs.Gathered.{HasSoFar}
+use Rattle.psos_print.proofs.LinesByUser.{HasSoFar}
 use Rattle.psos_print.proofs.places.gather.Given as goal
 
 abbrev pub invariant-entries : goal.invariant-entries

@@ -1,5 +1,5 @@
 use Rattle.std.proofs.Common.{sym, arith}
-use Rattle.psos_print.proofs.Noted.{noted}
+use Rattle.psos_print.proofs.GrowingLists.{noted}
 use Rattle.psos_print.proofs.places.note.Goals as goal
 
 pub returns-in_ok-push : goal.returns-in_ok-push

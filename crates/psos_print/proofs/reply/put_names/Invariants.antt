@@ -1,5 +1,5 @@
 use Rattle.std.proofs.Common.{◌≡◌, ◌++◌, drop}
-use Rattle.psos_model.specs.Transcript.{names_text}
+use Rattle.psos_model.specs.Text.Transcript.{names_text}
 use Rattle.psos_print.proofs.reply.put_names.Given as goal
 
 abbrev pub invariant-names : goal.invariant-names

@@ -1,7 +1,7 @@
 use Rattle.std.proofs.Common.{◌<◌, length, arith}
 use Rattle.psos_text.specs.Name.{name_text}
 use Rattle.psos_print.proofs.Pieces.{left_more, left_begun, on_err}
-use Rattle.psos_print.proofs.Gathered.{lines_next, all_at}
+use Rattle.psos_print.proofs.LinesByUser.{lines_next, all_at}
 use Rattle.psos_print.proofs.transcript.put_entries.Goals as goal
 
 pub returns-in_err-put_entry-clause-err : goal.returns-in_err-put_entry-clause-err

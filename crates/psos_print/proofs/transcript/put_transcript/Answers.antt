@@ -1,5 +1,5 @@
 use Rattle.psos_print.proofs.Pieces.{front_begun, begun_same, last_front}
-use Rattle.psos_print.proofs.Gathered.{text_is}
+use Rattle.psos_print.proofs.LinesByUser.{text_is}
 use Rattle.psos_print.proofs.transcript.put_transcript.Goals as goal
 
 pub returns-in_err-put_users-clause-front : goal.returns-in_err-put_users-clause-front

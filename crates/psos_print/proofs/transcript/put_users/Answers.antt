@@ -1,6 +1,6 @@
 use Rattle.std.proofs.Common.{◌<◌, ◌∙◌, length, arith}
 use Rattle.psos_print.proofs.Pieces.{left_more, left_begun, on_err}
-use Rattle.psos_print.proofs.Gathered.{users_next, list_at, own_within}
+use Rattle.psos_print.proofs.LinesByUser.{users_next, list_at, own_within}
 use Rattle.psos_print.proofs.transcript.put_users.Goals as goal
 
 pub put_entries-requires : goal.put_entries-requires

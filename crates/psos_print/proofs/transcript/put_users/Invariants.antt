@@ -1,6 +1,6 @@
 use Rattle.std.proofs.Common.{◌≡◌, drop, map}
 use Rattle.psos_model.specs.Replay.{answered_of}
-use Rattle.psos_model.specs.Transcript.{users_lines}
+use Rattle.psos_model.specs.Text.Transcript.{users_lines}
 use Rattle.psos_print.proofs.Pieces.{HasLeft}
 use Rattle.psos_print.proofs.transcript.put_users.Given as goal
 

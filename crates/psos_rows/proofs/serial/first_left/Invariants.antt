@@ -1,4 +1,4 @@
-use Rattle.psos_rows.proofs.First.{NoneBelow}
+use Rattle.psos_rows.proofs.FirstUser.{NoneBelow}
 use Rattle.psos_rows.proofs.serial.first_left.Given as goal
 
 abbrev pub invariant-users : goal.invariant-users

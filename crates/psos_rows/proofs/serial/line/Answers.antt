@@ -1,5 +1,5 @@
 use Rattle.std.proofs.Common.{arith}
-use Rattle.psos_laws.proofs.UsersStep.{can_step}
+use Rattle.psos_laws.proofs.RoomToStep.{can_step}
 use Rattle.psos_rows.proofs.serial.line.Goals as goal
 
 pub step-requires-clause-state : goal.step-requires-clause-state

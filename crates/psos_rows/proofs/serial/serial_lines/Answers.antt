@@ -2,8 +2,8 @@ use Rattle.std.proofs.Common.{◌≡◌, ◌≤◌, ◌+◌, List, [], ◌∷◌
 use Rattle.std.proofs.lemmas.Grind.{common_steps}
 use Rattle.psos_calls.specs.declared.line.Line.{Line}
 use Rattle.psos_model.specs.Flat.{Flat}
-use Rattle.psos_model.specs.Boot.{boot}
-use Rattle.psos_rows.proofs.SoFar.{IsSoFar, so_far_start, so_far_next, so_far_whole, so_far_end}
+use Rattle.psos_model.specs.Flat.Boot.{boot}
+use Rattle.psos_rows.proofs.SerialRun.{IsSoFar, so_far_start, so_far_next, so_far_whole, so_far_end}
 use Rattle.psos_rows.proofs.serial.serial_lines.Goals as goal
 
 pub turns-init : goal.turns-init

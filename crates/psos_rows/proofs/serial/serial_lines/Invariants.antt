@@ -1,4 +1,4 @@
-use Rattle.psos_rows.proofs.SoFar.{IsSoFar}
+use Rattle.psos_rows.proofs.SerialRun.{IsSoFar}
 use Rattle.psos_rows.proofs.serial.serial_lines.Given as goal
 
 abbrev pub invariant-turns : goal.invariant-turns

@@ -1,4 +1,4 @@
-use Rattle.psos_text.proofs.Firsts.{NoneBefore, is_byte}
+use Rattle.psos_text.proofs.FirstPlaces.{NoneBefore, is_byte}
 use Rattle.psos_text.proofs.finds.first_at.Given as goal
 
 abbrev pub invariant-bytes : goal.invariant-bytes

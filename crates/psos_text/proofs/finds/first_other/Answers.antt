@@ -1,5 +1,5 @@
 use Rattle.std.proofs.Common.{rules, rules}
-use Rattle.psos_text.proofs.Firsts.{first_is, none_is, is_other}
+use Rattle.psos_text.proofs.FirstPlaces.{first_is, none_is, is_other}
 use Rattle.psos_text.proofs.finds.first_other.Goals as goal
 
 pub returns-then-b-sep-clause-at : goal.returns-then-b-sep-clause-at

@@ -1,4 +1,4 @@
-use Rattle.psos_text.proofs.Firsts.{NoneBefore, is_other}
+use Rattle.psos_text.proofs.FirstPlaces.{NoneBefore, is_other}
 use Rattle.psos_text.proofs.finds.first_other.Given as goal
 
 abbrev pub invariant-bytes : goal.invariant-bytes

@@ -1,7 +1,7 @@
 use Rattle.std.proofs.Common.{ap}
 use Rattle.std.specs.Prelude.{option_map}
 use Rattle.psos_core.specs.System.{system_of}
-use Rattle.psos_top.proofs.Printed.{ends_printed, ends_cut, ends_broken}
+use Rattle.psos_top.proofs.RunPrinting.{ends_printed, ends_cut, ends_broken}
 use Rattle.psos_top.proofs.ending.finish.Goals as goal
 use Rattle.psos_top.proofs.ending.finish.Goals.{in-Ok, in-Err-Write}
 

@@ -1,5 +1,5 @@
 use Rattle.std.proofs.Common.{◌∙◌}
-use Rattle.psos_top.proofs.Printed.{if_err, leaves_front, line_begun}
+use Rattle.psos_top.proofs.RunPrinting.{if_err, leaves_front, line_begun}
 use Rattle.psos_top.proofs.ending.put_run.Goals as goal
 
 pub returns-in_err-put_transcript-clause-front : goal.returns-in_err-put_transcript-clause-front

@@ -1,13 +1,13 @@
 use Rattle.std.proofs.Common.{◌≡◌, ℕ, List, Some, sym, ap, ◌∙◌, subst}
 use Rattle.std.specs.Prelude.{option_map}
-use Rattle.psos_calls.specs.Script.{Script}
-use Rattle.psos_model.specs.Spelling.{IsScript}
+use Rattle.psos_calls.specs.Language.Script.{Script}
+use Rattle.psos_model.specs.Text.Spelling.{IsScript}
 use Rattle.psos_script.specs.declared.fault.ScriptFault.{ScriptFault}
 use Rattle.psos_script.specs.Fault.{fault_of}
 use Rattle.psos_core.specs.System.{system_of}
 use Rattle.psos_top.specs.Outcome.{fault_line, Wrote}
-use Rattle.psos_top.proofs.Refused.{stands, first_is, none_is}
-use Rattle.psos_top.proofs.Ended.{was_read, refused_ends, run_ends}
+use Rattle.psos_top.proofs.FirstFault.{stands, first_is, none_is}
+use Rattle.psos_top.proofs.CommandEnds.{was_read, refused_ends, run_ends}
 use Rattle.psos_top.proofs.run.run.Goals as goal
 
 pub returns-in-Err-Script-clause-ends : goal.returns-in-Err-Script-clause-ends

@@ -1,9 +1,9 @@
 use Rattle.std.proofs.Common.{◌≡◌, [], sym, ap, ◌∙◌, subst}
-use Rattle.psos_calls.specs.Script.{Script, IsWellFormed}
-use Rattle.psos_model.specs.Boot.{boot}
+use Rattle.psos_calls.specs.Language.Script.{Script, IsWellFormed}
+use Rattle.psos_model.specs.Flat.Boot.{boot}
 use Rattle.psos_model.specs.Replay.{System, boot_system}
 use Rattle.psos_core.specs.System.{system_of}
-use Rattle.psos_core.proofs.FromBoot.{boot_starts}
+use Rattle.psos_core.proofs.RunsFromBoot.{boot_starts}
 use Rattle.psos_core.specs.Events.{IsAfter}
 use Rattle.psos_top.proofs.run.run_script.Goals as goal
 

@@ -1,5 +1,5 @@
 use Rattle.std.specs.Prelude.{string_bytes}
-use Rattle.psos_top.proofs.Pairs.{pair_read}
+use Rattle.psos_top.proofs.OptionPairs.{pair_read}
 use Rattle.psos_top.proofs.words.+options_in.Goals as goal
 
 pub returns-in-Some-with_option-clause-options : goal.returns-in-Some-with_option-clause-options

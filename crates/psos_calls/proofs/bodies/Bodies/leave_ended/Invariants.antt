@@ -1,6 +1,6 @@
 use Rattle.std.proofs.Common.{◌≡◌, length}
 use Rattle.psos_words.specs.declared.word.Word.{Word}
-use Rattle.psos_calls.specs.User.{User, outward}
+use Rattle.psos_calls.specs.Language.User.{User, outward}
 use Rattle.psos_calls.proofs.bodies.Bodies.leave_ended.Given as goal
 
 -- what is left of the open bodies makes the same of a word that goes outward

@@ -1,7 +1,7 @@
 use Rattle.std.proofs.Common.{◌≡◌, sym, subst, ◌∙◌}
 use Rattle.psos_calls.specs.contracts.private.Private.{the_view}
-use Rattle.psos_calls.specs.User.{User, ended}
-use Rattle.psos_calls.proofs.Users.{ended_is}
+use Rattle.psos_calls.specs.Language.User.{User, ended}
+use Rattle.psos_calls.proofs.BodyEnds.{ended_is}
 use Rattle.psos_calls.proofs.private.Private.end_bodies.Goals as goal
 
 pub returns-then-is_over : goal.returns-then-is_over

@@ -1,5 +1,5 @@
 use Rattle.std.proofs.Common.{◌≡◌, ◌++◌, drop}
-use Rattle.psos_calls.specs.Trace.{calls_in}
+use Rattle.psos_calls.specs.Plan.Trace.{calls_in}
 use Rattle.psos_calls.proofs.trace.Trace.calls.Given as goal
 
 abbrev pub invariant-steps : goal.invariant-steps

@@ -1,7 +1,7 @@
 use Rattle.std.proofs.Common.{◌≡◌, ◌<◌, ◌≤◌, length, slice_get, refl, sym, ap, ◌∙◌, Vec, Global, ℕ, ◌+◌, ◌-◌, arith}
 use Rattle.std.proofs.lemmas.Option.{slice_get_read}
 use Rattle.psos_calls.specs.declared.request.Request.{Request}
-use Rattle.psos_calls.proofs.Phases.{from, from-within, from-past}
+use Rattle.psos_calls.proofs.PhasePlaces.{from, from-within, from-past}
 use Rattle.psos_calls.proofs.user_text.UserText.request.Goals as goal
 
 pub returns-then-left-len : goal.returns-then-left-len

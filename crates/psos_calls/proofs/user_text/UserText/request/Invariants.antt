@@ -1,6 +1,6 @@
 use Rattle.std.proofs.Common.{◌≡◌, map, drop, slice_get}
 use Rattle.std.specs.List.{flat_map}
-use Rattle.psos_calls.specs.Script.{requests_of}
+use Rattle.psos_calls.specs.Language.Script.{requests_of}
 use Rattle.psos_calls.proofs.user_text.UserText.request.Given as goal
 
 -- what is asked for stands among the phases that are left

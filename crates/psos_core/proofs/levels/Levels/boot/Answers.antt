@@ -1,8 +1,8 @@
 use Rattle.std.proofs.Common.{length, sym, subst, arith}
 use Rattle.std.specs.List.{AllByRecursion}
-use Rattle.psos_model.specs.Within.{IsShort}
-use Rattle.psos_model.proofs.Leftover.{are_short}
-use Rattle.psos_core.proofs.Booted.{ok_is, all_booted}
+use Rattle.psos_model.specs.Flat.Within.{IsShort}
+use Rattle.psos_model.proofs.RequestsLeft.{are_short}
+use Rattle.psos_core.proofs.BootTables.{ok_is, all_booted}
 use Rattle.psos_core.proofs.levels.Levels.boot.Goals as goal
 
 pub push_users-requires-clause-few : goal.push_users-requires-clause-few

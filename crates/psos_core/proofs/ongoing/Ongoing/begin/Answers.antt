@@ -3,9 +3,9 @@ use Rattle.std.specs.Prelude.{slice_get, Some}
 use Rattle.std.proofs.lemmas.List.{length-set}
 use Rattle.psos_calls.specs.declared.step.Step.{Step}
 use Rattle.psos_core.specs.Plans.{next_after, CanPlan, Tells}
-use Rattle.psos_core.proofs.Found.{found_there}
-use Rattle.psos_core.proofs.Begun.{begun_more, begun_all, cleared_more}
-use Rattle.psos_core.proofs.Moved.{read_back}
+use Rattle.psos_core.proofs.UserSlots.{found_there}
+use Rattle.psos_core.proofs.EventStart.{begun_more, begun_all, cleared_more}
+use Rattle.psos_core.proofs.EventParts.{read_back}
 use Rattle.psos_core.proofs.ongoing.Ongoing.begin.Goals as goal
 
 pub planned-requires-clause-trace : goal.planned-requires-clause-trace

@@ -1,5 +1,5 @@
 use Rattle.std.proofs.Common.{◌≡◌, [], length, take, replicate}
-use Rattle.psos_core.proofs.Begun.{AreBegun}
+use Rattle.psos_core.proofs.EventStart.{AreBegun}
 use Rattle.psos_core.proofs.ongoing.Ongoing.begin.Given as goal
 
 -- the users so far hold nothing and have no open request, and what they ask first is told

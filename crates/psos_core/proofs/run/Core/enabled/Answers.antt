@@ -2,8 +2,8 @@ use Rattle.std.proofs.Common.{◌≡◌, ◌<◌, ◌&&◌, Bool, length, Some, 
 use Rattle.std.specs.Prelude.{slice_get}
 use Rattle.psos_core.specs.Plans.{next_for, may_go}
 use Rattle.psos_core.specs.Events.{core_state_of}
-use Rattle.psos_core.proofs.Found.{found_there}
-use Rattle.psos_core.proofs.Stepping.{enabled_is, left_is}
+use Rattle.psos_core.proofs.UserSlots.{found_there}
+use Rattle.psos_core.proofs.EventStep.{enabled_is, left_is}
 use Rattle.psos_core.proofs.run.Core.enabled.Goals as goal
 
 pub bounds-as_slice-user : goal.bounds-as_slice-user

@@ -1,10 +1,10 @@
 use Rattle.std.proofs.Common.{◌≡◌, ◌<◌, true, false, length, get_or, Some, sym, ap, ◌∙◌, arith}
 use Rattle.std.specs.Prelude.{slice_get}
 use Rattle.std.proofs.lemmas.Option.{slice_get-get_or}
-use Rattle.psos_model.specs.Turns.{enabled_in}
+use Rattle.psos_model.specs.Events.Turns.{enabled_in}
 use Rattle.psos_core.specs.Events.{core_state_of}
-use Rattle.psos_core.proofs.Found.{nobody}
-use Rattle.psos_core.proofs.Drawn.{numbers, found_more}
+use Rattle.psos_core.proofs.UserSlots.{nobody}
+use Rattle.psos_core.proofs.TurnsRun.{numbers, found_more}
 use Rattle.psos_core.proofs.run.Core.enabled_users.Goals as goal
 use Rattle.psos_core.proofs.run.Core.enabled_users.Goals.{then-enabled, else-enabled}
 

@@ -1,5 +1,5 @@
 use Rattle.std.proofs.Common.{◌≡◌, ◌≤◌, ◌++◌, length, drop}
-use Rattle.psos_model.specs.Turns.{enabled_in}
+use Rattle.psos_model.specs.Events.Turns.{enabled_in}
 use Rattle.psos_core.specs.Events.{core_state_of}
 use Rattle.psos_core.proofs.run.Core.enabled_users.Given as goal
 

@@ -1,6 +1,6 @@
 use Rattle.psos_core.specs.Events.{core_state_of}
-use Rattle.psos_core.proofs.Stepping.{if_ok, from_err}
-use Rattle.psos_core.proofs.Drawn.{led_more, led_still}
+use Rattle.psos_core.proofs.EventStep.{if_ok, from_err}
+use Rattle.psos_core.proofs.TurnsRun.{led_more, led_still}
 use Rattle.psos_core.proofs.run.Core.event.Goals as goal
 
 pub returns-in_default-clause-after : goal.returns-in_default-clause-after

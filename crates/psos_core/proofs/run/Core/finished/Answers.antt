@@ -1,11 +1,11 @@
 use Rattle.std.proofs.Common.{◌≡◌, ℕ, not, Option, sym, ap, subst, ◌∙◌}
 use Rattle.std.specs.Prelude.{◌||◌, IsTrue}
 use Rattle.std.specs.List.{list_all}
-use Rattle.psos_calls.specs.User.{User}
+use Rattle.psos_calls.specs.Language.User.{User}
 use Rattle.psos_model.specs.Run.{phase_of, is_now, is_open, is_left}
-use Rattle.psos_model.proofs.Leftover.{fails, none_passes, all_fail}
+use Rattle.psos_model.proofs.RequestsLeft.{fails, none_passes, all_fail}
 use Rattle.psos_core.specs.Events.{core_state_of}
-use Rattle.psos_core.proofs.Drawn.{somebody_left, somebody_may}
+use Rattle.psos_core.proofs.TurnsRun.{somebody_left, somebody_may}
 use Rattle.psos_core.proofs.run.Core.finished.Goals as goal
 
 pub returns-clause-over : goal.returns-clause-over

@@ -3,7 +3,7 @@ use Rattle.std.specs.Prelude.{slice_index_or}
 use Rattle.psos_core.specs.declared.upcoming.Upcoming.TheVariants as upcoming
 use Rattle.psos_core.specs.Plans.{next_for, may_go}
 use Rattle.psos_core.specs.Events.{core_state_of}
-use Rattle.psos_core.proofs.Stepping.{leveled, known_leveled}
+use Rattle.psos_core.proofs.EventStep.{leveled, known_leveled}
 use Rattle.psos_core.proofs.run.Core.may_go.Goals as goal
 
 pub may_go-requires : goal.may_go-requires

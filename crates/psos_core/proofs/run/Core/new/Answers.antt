@@ -1,11 +1,11 @@
 use Rattle.std.proofs.Common.{◌≡◌, List, [], length, replicate, sym, ap, subst, ◌∙◌}
-use Rattle.psos_calls.specs.Script.{Script}
-use Rattle.psos_calls.specs.User.{User}
+use Rattle.psos_calls.specs.Language.Script.{Script}
+use Rattle.psos_calls.specs.Language.User.{User}
 use Rattle.psos_model.specs.Run.{current_phase}
-use Rattle.psos_agree.proofs.ListsStand.{directories_are_lists}
+use Rattle.psos_agree.proofs.EntryLists.{directories_are_lists}
 use Rattle.psos_core.specs.System.{levels_of, system_of}
 use Rattle.psos_core.specs.Plans.{state_in, AreFirst, IsKept}
-use Rattle.psos_core.proofs.Begun.{first_led, first_kept}
+use Rattle.psos_core.proofs.EventStart.{first_led, first_kept}
 use Rattle.psos_core.proofs.run.Core.new.Goals as goal
 
 pub new-requires-clause-lists : goal.new-requires-clause-lists

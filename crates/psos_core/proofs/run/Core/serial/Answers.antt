@@ -1,4 +1,4 @@
-use Rattle.psos_agree.proofs.ListsStand.{directories_are_lists}
+use Rattle.psos_agree.proofs.EntryLists.{directories_are_lists}
 use Rattle.psos_core.specs.System.{levels_of, system_of}
 use Rattle.psos_core.proofs.run.Core.serial.Goals as goal
 

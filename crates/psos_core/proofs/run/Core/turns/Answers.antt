@@ -1,11 +1,11 @@
 use Rattle.std.proofs.Common.{◌≡◌, ℕ, ◌++◌, ◌∷◌, [], get_or, sym, ◌∙◌, subst, arith}
 use Rattle.psos_text.specs.Draws.{next_draw}
-use Rattle.psos_calls.specs.Script.{Script}
-use Rattle.psos_model.specs.Turns.{enabled_in, IsTurnsOrderFrom}
+use Rattle.psos_calls.specs.Language.Script.{Script}
+use Rattle.psos_model.specs.Events.Turns.{enabled_in, IsTurnsOrderFrom}
 use Rattle.psos_core.specs.System.{system_of}
 use Rattle.psos_core.specs.Serving.{Start, IsFrontFrom, IsRunFrom}
 use Rattle.psos_core.specs.Events.{core_state_of, HasLed}
-use Rattle.psos_core.proofs.Drawn.{IsDrawn, under_way, over_now, drawn_may, picked_is, none_in, front_here, front_on, way_on, whole, one_turn, goes_further}
+use Rattle.psos_core.proofs.TurnsRun.{IsDrawn, under_way, over_now, drawn_may, picked_is, none_in, front_here, front_on, way_on, whole, one_turn, goes_further}
 use Rattle.psos_core.proofs.run.Core.turns.Goals as goal
 
 pub returns-then-is_empty-clause-run : goal.returns-then-is_empty-clause-run

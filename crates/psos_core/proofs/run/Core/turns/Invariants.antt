@@ -2,7 +2,7 @@ use Rattle.std.proofs.Common.{◌≡◌, ◌-◌, ◌≤◌, None}
 use Rattle.psos_events.specs.Events.{gone}
 use Rattle.psos_core.specs.System.{system_of}
 use Rattle.psos_core.specs.Events.{core_state_of}
-use Rattle.psos_core.proofs.Drawn.{IsDrawn}
+use Rattle.psos_core.proofs.TurnsRun.{IsDrawn}
 use Rattle.psos_core.proofs.run.Core.turns.Given as goal
 
 -- each event so far was that of the user that was drawn

@@ -1,7 +1,7 @@
 use Rattle.std.proofs.Common.{sym, ap, ◌∙◌}
 use Rattle.psos_table.specs.Table.{kept, size}
 use Rattle.psos_counts.specs.Counted.{is_of_class}
-use Rattle.psos_counts.proofs.ByClass.{counts_dropped, none_to_drop}
+use Rattle.psos_counts.proofs.ClassCounts.{counts_dropped, none_to_drop}
 use Rattle.psos_counts.proofs.counted.Counted.drop_class.Goals as goal
 
 pub returns-then-count-eq0 : goal.returns-then-count-eq0

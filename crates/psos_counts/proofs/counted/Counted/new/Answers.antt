@@ -1,4 +1,4 @@
-use Rattle.psos_counts.proofs.ByClass.{counts_empty}
+use Rattle.psos_counts.proofs.ClassCounts.{counts_empty}
 use Rattle.psos_counts.proofs.counted.Counted.new.Goals as goal
 
 pub invariant_of-result : goal.invariant_of-result

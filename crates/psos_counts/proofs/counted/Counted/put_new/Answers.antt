@@ -1,6 +1,6 @@
 use Rattle.std.proofs.Common.{◌≡◌, sym, ap, ◌∙◌, None, arith}
 use Rattle.psos_table.specs.Table.{at}
-use Rattle.psos_counts.proofs.ByClass.{counts_put, counts_put_none, count_most, undone}
+use Rattle.psos_counts.proofs.ClassCounts.{counts_put, counts_put_none, count_most, undone}
 use Rattle.psos_counts.proofs.counted.Counted.put_new.Goals as goal
 
 pub invariant_of-self-in_default : goal.invariant_of-self-in_default

@@ -1,5 +1,5 @@
 use Rattle.std.proofs.Common.{sym, ◌∙◌}
-use Rattle.psos_counts.proofs.ByClass.{counts_gone, counts_gone_none, counts_gone_absent}
+use Rattle.psos_counts.proofs.ClassCounts.{counts_gone, counts_gone_none, counts_gone_absent}
 use Rattle.psos_counts.proofs.counted.Counted.remove.Goals as goal
 
 pub invariant_of-self : goal.invariant_of-self

@@ -2,7 +2,7 @@ use Rattle.std.proofs.Common.{◌+◌, ◌*◌, List, sym, ap, get_or, ◌∙◌
 use Rattle.psos_words.specs.declared.word.Word.{Word}
 use Rattle.psos_words.specs.Directory.{Slot, Never}
 use Rattle.psos_dirrep.specs.Entries.{entry_in, read_entry}
-use Rattle.psos_dirrep.proofs.Gets.{get-past, get-here}
+use Rattle.psos_dirrep.proofs.SlotEntries.{get-past, get-here}
 use Rattle.psos_dirrep.proofs.SlotSteps.{At}
 use Rattle.psos_dirrep.proofs.entries.Entries127.get.Goals as goal
 

@@ -2,7 +2,7 @@ use Rattle.std.proofs.Common.{◌≡◌, ◌<◌, length, arith, ap, ◌∙◌, 
 use Rattle.psos_journal.specs.Counts.{totals}
 use Rattle.psos_journal.specs.Views.{Kept}
 use Rattle.psos_journal.specs.Holds.{Journals}
-use Rattle.psos_journal.proofs.Keeping.{begun}
+use Rattle.psos_journal.proofs.JournalInvariant.{begun}
 use Rattle.psos_journal.proofs.journal.Journal.begin.Goals as goal
 
 pub invariant_of-self-2 : goal.invariant_of-self-2

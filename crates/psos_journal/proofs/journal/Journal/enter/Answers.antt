@@ -4,7 +4,7 @@ use Rattle.psos_journal.specs.Counts.{amount_of, totals}
 use Rattle.psos_journal.specs.Members.{named}
 use Rattle.psos_journal.specs.Views.{Kept, Side}
 use Rattle.psos_journal.specs.Holds.{Journals}
-use Rattle.psos_journal.proofs.Keeping.{entered, comes_last, bit_shifted}
+use Rattle.psos_journal.proofs.JournalInvariant.{entered, comes_last, bit_shifted}
 use Rattle.psos_journal.proofs.journal.Journal.enter.Goals as goal
 
 pub invariant_of-self : goal.invariant_of-self

@@ -1,6 +1,6 @@
 use Rattle.std.proofs.Common.{arith}
 use Rattle.std.proofs.lemmas.Option.{slice_get_within}
-use Rattle.psos_journal.proofs.Meeting.{met_next}
+use Rattle.psos_journal.proofs.MetMembers.{met_next}
 use Rattle.psos_journal.proofs.journal.Journal.into_entries.Goals as goal
 
 pub loop-k-preserved : goal.loop-k-preserved

@@ -1,4 +1,4 @@
-use Rattle.psos_journal.proofs.Meeting.{Met}
+use Rattle.psos_journal.proofs.MetMembers.{Met}
 use Rattle.psos_journal.proofs.journal.Journal.into_entries.Given as goal
 
 abbrev pub invariant-loop-k : goal.invariant-loop-k

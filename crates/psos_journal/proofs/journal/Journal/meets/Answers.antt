@@ -3,8 +3,8 @@ use Rattle.psos_journal.specs.Counts.{number_of, amount_of, totals}
 use Rattle.psos_journal.specs.Members.{named}
 use Rattle.psos_journal.specs.Views.{Kept}
 use Rattle.psos_journal.specs.Holds.{Journals}
-use Rattle.psos_journal.proofs.Named.{same_named}
-use Rattle.psos_journal.proofs.Keeping.{compared}
+use Rattle.psos_journal.proofs.MemberEntries.{same_named}
+use Rattle.psos_journal.proofs.JournalInvariant.{compared}
 use Rattle.psos_journal.proofs.journal.Journal.meets.Goals as goal
 
 pub invariant_of-self : goal.invariant_of-self

@@ -1,6 +1,6 @@
 use Rattle.psos_journal.specs.Counts.{totals}
 use Rattle.psos_journal.specs.Cells.{entries_in}
-use Rattle.psos_journal.proofs.Keeping.{starts}
+use Rattle.psos_journal.proofs.JournalInvariant.{starts}
 use Rattle.psos_journal.proofs.journal.Journal.start.Goals as goal
 
 pub invariant_of-journal : goal.invariant_of-journal

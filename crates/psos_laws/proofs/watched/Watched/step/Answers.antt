@@ -1,7 +1,7 @@
 use Rattle.std.proofs.Common.{[], ◌∷◌, ◌++◌, refl, sym, ap, ◌∙◌, arith}
 use Rattle.psos_laws.proofs.WatchedRuns.{laws_of, laws_same, laws_more, laws_few, laws_step, laws_kept, laws_confined, laws_back}
 use Rattle.psos_laws.specs.History.{history}
-use Rattle.psos_laws.proofs.ArrivalsKept.{tells_same, tells_as, tells_step, small_boxes, one_of_eight}
+use Rattle.psos_laws.proofs.OriginTables.{tells_same, tells_as, tells_step, small_boxes, one_of_eight}
 use Rattle.psos_laws.proofs.watched.Watched.step.Goals as goal
 
 pub overflow_cast-stamp : goal.overflow_cast-stamp

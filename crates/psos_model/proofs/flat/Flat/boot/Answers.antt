@@ -1,7 +1,7 @@
 use Rattle.std.proofs.Common.{length, sym, subst}
 use Rattle.std.specs.List.{AllByRecursion}
-use Rattle.psos_model.specs.Within.{IsShort}
-use Rattle.psos_model.proofs.Leftover.{are_short}
+use Rattle.psos_model.specs.Flat.Within.{IsShort}
+use Rattle.psos_model.proofs.RequestsLeft.{are_short}
 use Rattle.psos_model.proofs.flat.Flat.boot.Goals as goal
 
 pub push_users-requires-clause-few : goal.push_users-requires-clause-few

@@ -1,9 +1,9 @@
 use Rattle.std.proofs.Common.{◌≡◌, ℕ, ◌||◌, not, List, Option, sym, ap, subst, ◌∙◌}
 use Rattle.std.specs.Prelude.{IsTrue}
 use Rattle.std.specs.List.{list_all}
-use Rattle.psos_calls.specs.User.{User}
+use Rattle.psos_calls.specs.Language.User.{User}
 use Rattle.psos_model.specs.Run.{phase_of, is_now, is_open, is_left}
-use Rattle.psos_model.proofs.Leftover.{fails, none_passes, all_fail}
+use Rattle.psos_model.proofs.RequestsLeft.{fails, none_passes, all_fail}
 use Rattle.psos_model.proofs.flat.Flat.finished.Goals as goal
 
 pub returns : goal.returns

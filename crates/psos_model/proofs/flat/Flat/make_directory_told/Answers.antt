@@ -1,5 +1,5 @@
 use Rattle.std.proofs.Common.{sym, ap, ◌∙◌}
-use Rattle.psos_model.proofs.Told.{from_ok, from_err, with_dirs, life_there, entry_there, taken_is, directory_told}
+use Rattle.psos_model.proofs.Registration.{from_ok, from_err, with_dirs, life_there, entry_there, taken_is, directory_told}
 use Rattle.psos_model.proofs.flat.Flat.make_directory_told.Goals as goal
 
 pub take_back-requires-clause-life : goal.take_back-requires-clause-life

@@ -1,8 +1,8 @@
 use Rattle.std.proofs.Common.{sym, ap, ◌∙◌}
 use Rattle.psos_table.specs.Table.{has}
-use Rattle.psos_model.specs.Undo.{put_back}
-use Rattle.psos_model.proofs.TakenBack.{put_back_is}
-use Rattle.psos_model.proofs.Told.{has_put, from_err, same_made}
+use Rattle.psos_model.specs.Flat.Undo.{put_back}
+use Rattle.psos_model.proofs.UndoneChanges.{put_back_is}
+use Rattle.psos_model.proofs.Registration.{has_put, from_err, same_made}
 use Rattle.psos_model.proofs.flat.Flat.make_object.Goals as goal
 
 pub put_back-requires : goal.put_back-requires

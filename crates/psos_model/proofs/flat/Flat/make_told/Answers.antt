@@ -1,5 +1,5 @@
 use Rattle.std.proofs.Common.{sym, ◌∙◌}
-use Rattle.psos_model.proofs.Told.{from_err, life_there, entry_there, taken_is}
+use Rattle.psos_model.proofs.Registration.{from_err, life_there, entry_there, taken_is}
 use Rattle.psos_model.proofs.flat.Flat.make_told.Goals as goal
 
 pub take_back-requires-clause-life : goal.take_back-requires-clause-life

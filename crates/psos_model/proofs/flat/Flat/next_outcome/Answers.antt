@@ -1,5 +1,5 @@
 use Rattle.std.proofs.Common.{sym}
-use Rattle.psos_model.proofs.Asked.{in_range}
+use Rattle.psos_model.proofs.RequestRanges.{in_range}
 use Rattle.psos_model.proofs.flat.Flat.next_outcome.Goals as goal
 
 pub outcome_of-requires-clause-range : goal.outcome_of-requires-clause-range

@@ -1,6 +1,6 @@
 use Rattle.std.proofs.Common.{sym}
-use Rattle.psos_model.proofs.Asked.{in_range}
-use Rattle.psos_model.proofs.Stepped.{still_there, can_settle, stepped}
+use Rattle.psos_model.proofs.RequestRanges.{in_range}
+use Rattle.psos_model.proofs.FlatStep.{still_there, can_settle, stepped}
 use Rattle.psos_model.proofs.flat.Flat.step.Goals as goal
 
 pub outcome_of-requires-clause-range : goal.outcome_of-requires-clause-range

@@ -3,7 +3,7 @@ use Rattle.std.specs.FinMap.{keys}
 use Rattle.psos_text.specs.declared.name.Name.{Name}
 use Rattle.psos_model.specs.declared.named.Named.{Named}
 use Rattle.psos_model.proofs.NameOrder.{name_cmp_total}
-use Rattle.psos_model.proofs.Found.{all_passed, entries_rows}
+use Rattle.psos_model.proofs.NameSearch.{all_passed, entries_rows}
 use Rattle.psos_model.proofs.names_table.NamesTable.keys.Goals as goal
 
 pub returns : goal.returns

@@ -3,7 +3,7 @@ use Rattle.std.proofs.lemmas.Bool.Decides.{nat_tests}
 use Rattle.std.specs.List.{list_any}
 use Rattle.psos_table.specs.Table.{kept, size}
 use Rattle.psos_model.specs.declared.object.Object.{Object}
-use Rattle.psos_model.proofs.AnyKept.{any_kept, any_here}
+use Rattle.psos_model.proofs.RowSearch.{any_kept, any_here}
 use Rattle.psos_model.proofs.objects.Objects.has_type.Goals as goal
 
 pub returns-then-object-of : goal.returns-then-object-of

@@ -1,5 +1,5 @@
 use Rattle.std.proofs.Common.{◌∙◌, ap, None, slice_index_or, slice_set}
-use Rattle.psos_pages.proofs.States.{slot-taken, slots-give}
+use Rattle.psos_pages.proofs.SlotStates.{slot-taken, slots-give}
 use Rattle.psos_pages.proofs.pages.Pages.free.Goals as goal
 
 pub give-requires : goal.give-requires

@@ -1,5 +1,5 @@
 use Rattle.std.proofs.Common.{arith}
-use Rattle.psos_pages.proofs.States.{slots-free, there-none}
+use Rattle.psos_pages.proofs.SlotStates.{slots-free, there-none}
 use Rattle.psos_pages.proofs.pages.Pages.new.Goals as goal
 
 pub invariant_of-result : goal.invariant_of-result

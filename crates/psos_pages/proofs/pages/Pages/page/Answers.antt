@@ -1,6 +1,6 @@
 use Rattle.std.proofs.Common.{◌/◌, ◌∙◌, ap, arith, take, drop}
-use Rattle.psos_calls.specs.Level7.{place_in_slot}
-use Rattle.psos_pages.proofs.States.{there-here, words-here}
+use Rattle.psos_calls.specs.Levels.Level7.{place_in_slot}
+use Rattle.psos_pages.proofs.SlotStates.{there-here, words-here}
 use Rattle.psos_pages.proofs.pages.Pages.page.Goals as goal
 
 pub index-requires : goal.index-requires

@@ -1,6 +1,6 @@
 use Rattle.std.proofs.Common.{◌/◌, ap, arith}
-use Rattle.psos_calls.specs.Level7.{place_in_slot, written}
-use Rattle.psos_pages.proofs.States.{there-here, changed-here}
+use Rattle.psos_calls.specs.Levels.Level7.{place_in_slot, written}
+use Rattle.psos_pages.proofs.SlotStates.{there-here, changed-here}
 use Rattle.psos_pages.proofs.pages.Pages.put_four.Goals as goal
 
 pub index_mut-requires : goal.index_mut-requires

@@ -1,7 +1,7 @@
 use Rattle.std.proofs.Common.{◌/◌, ap, arith, slice_index_or}
 use Rattle.psos_words.specs.declared.word.Word.TheVariants.{Data}
-use Rattle.psos_calls.specs.Level7.{place_in_slot}
-use Rattle.psos_pages.proofs.States.{there-here, words-here}
+use Rattle.psos_calls.specs.Levels.Level7.{place_in_slot}
+use Rattle.psos_pages.proofs.SlotStates.{there-here, words-here}
 use Rattle.psos_pages.proofs.pages.Pages.word.Goals as goal
 
 pub index-requires : goal.index-requires

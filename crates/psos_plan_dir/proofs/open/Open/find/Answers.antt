@@ -3,9 +3,9 @@ use Rattle.std.specs.Prelude.{option_map}
 use Rattle.psos_words.specs.Directory.{find}
 use Rattle.psos_dirrep.specs.Entries.{as_found}
 use Rattle.psos_dirrep.proofs.WholeSearch.{list-find, list-slots}
-use Rattle.psos_calls.specs.PlanParts.{Opened}
+use Rattle.psos_calls.specs.Plan.Parts.{Opened}
 use Rattle.psos_plan_dir.specs.Pages.{pages_in}
-use Rattle.psos_plan_dir.proofs.Walk.{pages-count}
+use Rattle.psos_plan_dir.proofs.PageWalk.{pages-count}
 use Rattle.psos_plan_dir.proofs.open.Open.find.Goals as goal
 
 pub find_from-requires-clause-few : goal.find_from-requires-clause-few

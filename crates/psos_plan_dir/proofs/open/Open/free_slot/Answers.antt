@@ -4,9 +4,9 @@ use Rattle.psos_dirrep.specs.EntryLists.{entry_list}
 use Rattle.psos_dirrep.specs.Pages.{words_of, entry_slot}
 use Rattle.psos_dirrep.proofs.PageLaws.{pages-places}
 use Rattle.psos_dirrep.proofs.WholeSearch.{list-slots}
-use Rattle.psos_calls.specs.PlanParts.{Opened}
+use Rattle.psos_calls.specs.Plan.Parts.{Opened}
 use Rattle.psos_plan_dir.specs.Pages.{pages_in}
-use Rattle.psos_plan_dir.proofs.Walk.{pages-count}
+use Rattle.psos_plan_dir.proofs.PageWalk.{pages-count}
 use Rattle.psos_plan_dir.proofs.open.Open.free_slot.Goals as goal
 
 pub free_from-requires-clause-few : goal.free_from-requires-clause-few

@@ -1,10 +1,10 @@
 use Rattle.std.proofs.Common.{ap, ◌∙◌}
 use Rattle.psos_words.specs.Directory.{entries_in}
 use Rattle.psos_dirrep.proofs.WholeSearch.{list-slots}
-use Rattle.psos_calls.specs.PlanLife.{no_entry}
-use Rattle.psos_calls.specs.PlanParts.{Opened}
+use Rattle.psos_calls.specs.Plan.Objects.{no_entry}
+use Rattle.psos_calls.specs.Plan.Parts.{Opened}
 use Rattle.psos_plan_dir.specs.Pages.{pages_in}
-use Rattle.psos_plan_dir.proofs.Collecting.{none-is}
+use Rattle.psos_plan_dir.proofs.NameLists.{none-is}
 use Rattle.psos_plan_dir.proofs.open.Open.is_empty.Goals as goal
 
 pub none_used-requires-clause-slots : goal.none_used-requires-clause-slots

@@ -2,10 +2,10 @@ use Rattle.std.proofs.Common.{◌≡◌, List, ap, ◌∙◌}
 use Rattle.psos_text.specs.declared.name.Name.{Name}
 use Rattle.psos_words.specs.Directory.{entries_in}
 use Rattle.psos_dirrep.proofs.WholeSearch.{list-slots}
-use Rattle.psos_calls.specs.Names.{names_of}
-use Rattle.psos_calls.specs.PlanParts.{Opened}
+use Rattle.psos_calls.specs.Language.Names.{names_of}
+use Rattle.psos_calls.specs.Plan.Parts.{Opened}
 use Rattle.psos_plan_dir.specs.Pages.{pages_in}
-use Rattle.psos_plan_dir.proofs.Collecting.{collected-is, ok-then}
+use Rattle.psos_plan_dir.proofs.NameLists.{collected-is, ok-then}
 use Rattle.psos_plan_dir.proofs.open.Open.names.Goals as goal
 
 pub collected-requires-clause-slots : goal.collected-requires-clause-slots

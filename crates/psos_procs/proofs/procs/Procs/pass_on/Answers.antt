@@ -1,5 +1,5 @@
 use Rattle.std.proofs.Common.{ap, ◌∙◌, arith}
-use Rattle.psos_calls.specs.Level12.{BoxState, act12}
+use Rattle.psos_calls.specs.Levels.Level12.{BoxState, act12}
 use Rattle.psos_procs.proofs.Calls.{part-found, part-number, acted-are, acted-is}
 use Rattle.psos_procs.proofs.procs.Procs.pass_on.Goals as goal
 

@@ -1,7 +1,7 @@
 use Rattle.std.proofs.Common.{arith, ◌≡◌, sym, ap}
 use Rattle.std.specs.Prelude.{codes}
 use Rattle.psos_script.specs.Table.{head_of}
-use Rattle.psos_script.proofs.Spelled.{five, six, eight}
+use Rattle.psos_script.proofs.LongWords.{five, six, eight}
 use Rattle.psos_script.proofs.head.Head.of.Goals as goal
 
 pub returns-in-phase : goal.returns-in-phase

@@ -2,7 +2,7 @@ use Rattle.std.proofs.Common.{rules, arith, ◌≡◌, ◌<◌, length, List, tr
 use Rattle.std.specs.Str.{bytes_eq}
 use Rattle.psos_text.specs.declared.name.Name.{Name}
 use Rattle.psos_text.specs.Name.{name_text}
-use Rattle.psos_model.specs.Operands.{Text}
+use Rattle.psos_model.specs.Text.Operands.{Text}
 use Rattle.psos_script.specs.Values.{number_among}
 use Rattle.psos_script.proofs.Lists.{first_is, none_is, blank}
 use Rattle.psos_script.proofs.name_list.NameList.number.Goals as goal

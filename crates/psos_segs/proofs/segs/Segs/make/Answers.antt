@@ -1,4 +1,4 @@
-use Rattle.psos_segs.proofs.Kept.{within_made}
+use Rattle.psos_segs.proofs.SegmentBounds.{within_made}
 use Rattle.psos_segs.proofs.segs.Segs.make.Goals as goal
 
 pub invariant_of-self-2 : goal.invariant_of-self-2

@@ -1,7 +1,7 @@
 use Rattle.std.proofs.Common.{◌+◌, ◌≤◌, sym, ap, ◌∙◌, arith}
-use Rattle.psos_calls.specs.Level8.{view}
+use Rattle.psos_calls.specs.Levels.Level8.{view}
 use Rattle.psos_segs.specs.Within.{as_view}
-use Rattle.psos_segs.proofs.Kept.{within_window, room_fits}
+use Rattle.psos_segs.proofs.SegmentBounds.{within_window, room_fits}
 use Rattle.psos_segs.proofs.segs.Segs.make_window.Goals as goal
 
 pub invariant_of-self-2 : goal.invariant_of-self-2

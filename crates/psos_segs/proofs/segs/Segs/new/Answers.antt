@@ -1,4 +1,4 @@
-use Rattle.psos_segs.proofs.Kept.{within_empty}
+use Rattle.psos_segs.proofs.SegmentBounds.{within_empty}
 use Rattle.psos_segs.proofs.segs.Segs.new.Goals as goal
 
 pub invariant_of-result : goal.invariant_of-result

@@ -1,4 +1,4 @@
-use Rattle.psos_segs.proofs.Kept.{within_gone}
+use Rattle.psos_segs.proofs.SegmentBounds.{within_gone}
 use Rattle.psos_segs.proofs.segs.Segs.remove.Goals as goal
 
 pub invariant_of-self : goal.invariant_of-self

@@ -1,5 +1,5 @@
 use Rattle.std.proofs.Common.{arith}
-use Rattle.psos_store.proofs.Frees.{least_free-give}
+use Rattle.psos_store.proofs.FreeSlots.{least_free-give}
 use Rattle.psos_store.proofs.slots.Slots.give.Goals as goal
 
 pub invariant_of-self : goal.invariant_of-self

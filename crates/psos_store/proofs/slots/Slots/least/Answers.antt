@@ -1,6 +1,6 @@
 use Rattle.std.proofs.Common.{◌≤◌, ◌∙◌, sym, ap, length, arith}
 use Rattle.psos_store.specs.Slots.{least_free}
-use Rattle.psos_store.proofs.Frees.{least_free-free, least_free-taken, few_free}
+use Rattle.psos_store.proofs.FreeSlots.{least_free-free, least_free-taken, few_free}
 use Rattle.psos_store.proofs.slots.Slots.least.Goals as goal
 
 pub taken-preserved : goal.taken-preserved

@@ -1,6 +1,6 @@
 use Rattle.std.proofs.Common.{ap, arith}
 use Rattle.psos_store.specs.Slots.{least_free}
-use Rattle.psos_store.proofs.Frees.{least_free-take}
+use Rattle.psos_store.proofs.FreeSlots.{least_free-take}
 use Rattle.psos_store.proofs.slots.Slots.take.Goals as goal
 
 pub bounds-self-inside-slot : goal.bounds-self-inside-slot

@@ -1,8 +1,8 @@
 use Rattle.std.proofs.Common.{ap, ◌∙◌, List}
 use Rattle.psos_calls.specs.declared.lock_id.LockId.{LockId}
-use Rattle.psos_calls.specs.Held.{are_earlier}
+use Rattle.psos_calls.specs.Locks.Held.{are_earlier}
 use Rattle.psos_sysproc.specs.Falling.{locks_in}
-use Rattle.psos_sysproc.proofs.Taken.{all_are_earlier}
+use Rattle.psos_sysproc.proofs.FallingLocks.{all_are_earlier}
 use Rattle.psos_sysproc.proofs.holding.Holding.are_earlier.Goals as goal
 
 pub returns : goal.returns

@@ -1,8 +1,8 @@
 use Rattle.std.proofs.Common.{ap, ◌∙◌, List}
 use Rattle.psos_calls.specs.declared.lock_id.LockId.{LockId}
-use Rattle.psos_calls.specs.Held.{is_held}
+use Rattle.psos_calls.specs.Locks.Held.{is_held}
 use Rattle.psos_sysproc.specs.Falling.{locks_in}
-use Rattle.psos_sysproc.proofs.Taken.{any_is_held}
+use Rattle.psos_sysproc.proofs.FallingLocks.{any_is_held}
 use Rattle.psos_sysproc.proofs.holding.Holding.has.Goals as goal
 
 pub returns : goal.returns

@@ -1,7 +1,7 @@
 use Rattle.std.proofs.Common.{List, IsTrue, subst, sym, arith}
 use Rattle.psos_calls.specs.declared.lock_id.LockId.{LockId}
-use Rattle.psos_calls.specs.Held.{are_earlier}
-use Rattle.psos_sysproc.proofs.Taken.{room_is_left}
+use Rattle.psos_calls.specs.Locks.Held.{are_earlier}
+use Rattle.psos_sysproc.proofs.FallingLocks.{room_is_left}
 use Rattle.psos_sysproc.proofs.holding.Holding.take.Goals as goal
 
 pub insert-requires : goal.insert-requires
