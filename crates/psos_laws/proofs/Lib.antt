@@ -30,7 +30,7 @@ pub mod BootSoundUsers
 pub mod BootSoundPlaces
 pub mod BootSound
 pub mod Histories
-pub mod Origins
+pub mod SoundOrigins
 pub mod Trails
 pub mod PlacesLaws
 pub mod OwnLandings

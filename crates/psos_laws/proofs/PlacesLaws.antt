@@ -17,7 +17,7 @@ use Rattle.psos_laws.specs.Laws.{IsLawful, LandingsAreAll, UnreadIsNew}
 use Rattle.psos_laws.proofs.StepLaws.{Lawful, IsNew, IsCopyFrom}
 use Rattle.psos_laws.proofs.AnswerSteps.{ground_of, answer_steps}
 use Rattle.psos_laws.proofs.Histories.{KeepsSound, firm_at, run_led, start_led}
-use Rattle.psos_laws.proofs.Origins.{sound_origins, all_landed, is_sealed}
+use Rattle.psos_laws.proofs.SoundOrigins.{sound_origins, all_landed, is_sealed}
 use Rattle.psos_laws.proofs.Trails.{is_held_back, keeps_confined}
 
 -- ---- one answer
