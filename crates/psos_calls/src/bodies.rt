@@ -1,11 +1,13 @@
 // The open bodies of a user.
 ghost use Rattle.std.specs.Prelude.{◌≡◌, ◌+◌, ◌<◌, ◌≤◌, ◌^◌, false, List, [], ◌∷◌, length, drop, slice_set, IfSome, IfNone};
+ghost use Rattle.psos_limits.specs.declared.TheConstants.{MOST_FRAMES};
 ghost use Rattle.psos_words.specs.declared.word.Word.{Word as WordValue};
 ghost use Rattle.psos_calls.specs.declared.frame.Frame.{Frame as FrameValue};
 ghost use Rattle.psos_calls.specs.Language.User.{User, is_over, outward};
 
 use crate::{Frame, Script};
 use arrayvec::ArrayVec;
+use psos_limits::MOST_FRAMES;
 use psos_words::Word;
 use std::marker::Model;
 
@@ -13,7 +15,7 @@ use std::marker::Model;
 #[derive(Drop)]
 pub(crate) struct Bodies {
     // The innermost stands last.
-    frames: ArrayVec<Frame, 4>,
+    frames: ArrayVec<Frame, MOST_FRAMES>,
 }
 
 impl Model for Bodies {
@@ -38,7 +40,7 @@ impl Bodies {
     /// How many are open.
     pub fn len(&self) -> usize
         ensures count { result ≡ length self.now }
-        ensures few { result ≤ 4 }
+        ensures few { result ≤ MOST_FRAMES }
     {
         self.frames.len()
     }
@@ -53,7 +55,7 @@ impl Bodies {
 
     /// Opens a body within the others.
     pub fn enter(&mut self, frame: Frame)
-        requires { length self.old < 4 }
+        requires { length self.old < MOST_FRAMES }
         ensures { self.new ≡ frame ∷ self.old }
     {
         self.frames.push(frame);

@@ -15,7 +15,6 @@ mod level;
 mod level_answer;
 mod level_call;
 mod level_fault;
-pub mod limits;
 mod line;
 mod lock_id;
 mod locks;

@@ -30,7 +30,7 @@ impl Names {
         }
     }
 
-    /// One more name at the end. A refusal is for memory and changes nothing.
+    /// One more name at the end. `Err` only where memory runs out: nothing is changed.
     pub fn push(&mut self, name: Name) -> Result<(), AllocError>
         ensures ok { OnOk result (self.new ≡ self.old ++ name ∷ []) }
         ensures err { OnErr result (self.new ≡ self.old) }

@@ -1,8 +1,10 @@
 // A process's name space.
 ghost use Rattle.std.specs.Prelude.{◌≡◌, ◌<◌, ◌≤◌, [], ◌∷◌, ◌++◌, length, slice_get, Some};
+ghost use Rattle.psos_limits.specs.declared.TheConstants.{MOST_PATH};
 
 use arrayvec::ArrayVec;
 use psos_caps::Cap;
+use psos_limits::MOST_PATH;
 use psos_words::Word;
 use std::marker::Model;
 
@@ -10,7 +12,7 @@ use std::marker::Model;
 #[derive(Drop)]
 pub struct Path {
     // Each of them is a capability.
-    words: ArrayVec<Word, 4>,
+    words: ArrayVec<Word, MOST_PATH>,
 }
 
 impl Model for Path {
@@ -38,7 +40,7 @@ impl Path {
     /// How many there are.
     pub fn len(&self) -> usize
         ensures count { result ≡ length self.now }
-        ensures few { result ≤ 4 }
+        ensures few { result ≤ MOST_PATH }
     {
         self.words.len()
     }
@@ -56,7 +58,7 @@ impl Path {
 
     /// One more at the end. There is room for four.
     pub fn push(&mut self, cap: Cap)
-        requires { length self.old < 4 }
+        requires { length self.old < MOST_PATH }
         ensures { self.new ≡ self.old ++ cap ∷ [] }
     {
         self.words.push(Word::Cap(cap));

@@ -1,5 +1,6 @@
 // What one user's process keeps for itself.
 ghost use Rattle.std.specs.Prelude.{◌≡◌, ◌+◌, ◌<◌, ◌≤◌, ◌^◌, [], length, slice_get, slice_set, Some};
+ghost use Rattle.psos_limits.specs.declared.TheConstants.{MOST_FRAMES};
 ghost use Rattle.psos_words.specs.Words.{word_at};
 ghost use Rattle.psos_calls.specs.declared.effect.Effect.TheVariants.{Enter};
 ghost use Rattle.psos_calls.specs.Language.User.{after, counted, settled, ended, with_reg, entered_regs, here, next_request, place_of, label_and_line, CanCount, CanMake, CanSettle};
@@ -107,7 +108,7 @@ impl Private {
     /// How many bodies are open.
     pub fn open_bodies(&self) -> usize
         ensures count { result ≡ length self.now.frames }
-        ensures few { result ≤ 4 }
+        ensures few { result ≤ MOST_FRAMES }
     {
         self.bodies.len()
     }
@@ -228,7 +229,7 @@ impl Private {
     }
 
     fn enter(&mut self, label: u8, link: Word)
-        requires few { length self.old.frames < 4 }
+        requires few { length self.old.frames < MOST_FRAMES }
         requires charge { self.old.charge + 16 < 2 ^ 16 }
         ensures { self.new ≡ settled self.old (Enter label link) }
     {

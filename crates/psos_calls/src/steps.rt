@@ -31,7 +31,8 @@ impl Steps {
         }
     }
 
-    /// No call, with room for so many, so that no more memory is taken than these need. A refusal is for memory.
+    /// No call, with room for so many, so that no more memory is taken than these need. `Err` only where memory runs
+    /// out.
     pub fn with_room(alloc: Global, n: usize) -> Result<Steps, AllocError>
         ensures { IfOk result (λ s. s ≡ []) }
     {
@@ -40,7 +41,7 @@ impl Steps {
         })
     }
 
-    /// One more call at the end. A refusal is for memory and changes nothing.
+    /// One more call at the end. `Err` only where memory runs out: nothing is changed.
     pub fn push(&mut self, level: Level, call: LevelCall) -> Result<(), AllocError>
         ensures ok { OnOk result (self.new ≡ self.old ++ (level, call) ∷ []) }
         ensures err { OnErr result (self.new ≡ self.old) }

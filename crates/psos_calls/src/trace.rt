@@ -1,8 +1,10 @@
 // The calls of an open request.
 ghost use Rattle.std.specs.Prelude.{◌≡◌, ◌<◌, [], ◌∷◌, ◌++◌, length, IfOk};
+ghost use Rattle.psos_limits.specs.declared.TheConstants.{TRACE_ROOM};
 ghost use Rattle.psos_calls.specs.Plan.Trace.{calls_in};
 
 use crate::{Level, LevelAnswer, LevelCall, Step, Steps};
+use psos_limits::TRACE_ROOM;
 use std::alloc::{AllocError, Global};
 use std::marker::Model;
 
@@ -18,29 +20,30 @@ pub struct Trace {
 
 impl Model for Trace {
     ghost use Rattle.std.specs.Prelude.{◌≤◌, List, length, take, vec_capacity};
+    ghost use Rattle.psos_limits.specs.declared.TheConstants.{TRACE_ROOM};
     ghost use Rattle.psos_calls.specs.declared.step.Step.{Step};
 
     ghost Value = { List Step };
 
     ghost view = { λ t. take t.len t.steps.items };
 
-    ghost invariant = { λ t. (64 ≤ vec_capacity t.steps) × (t.len ≤ length t.steps.items) };
+    ghost invariant = { λ t. (TRACE_ROOM ≤ vec_capacity t.steps) × (t.len ≤ length t.steps.items) };
 }
 
 impl Trace {
-    /// No call. A refusal is for memory.
+    /// No call. `Err` only where memory runs out.
     pub fn new(alloc: Global) -> Result<Trace, AllocError>
         ensures { IfOk result (λ t. t ≡ []) }
     {
         Ok(Trace {
-            steps: Vec::with_capacity(alloc, 64)?,
+            steps: Vec::with_capacity(alloc, TRACE_ROOM)?,
             len: 0,
         })
     }
 
     /// One more call at the end, with its answer. There is room for 64. It takes no memory.
     pub fn push(&mut self, level: Level, call: &LevelCall, answer: &LevelAnswer)
-        requires { length self.old < 64 }
+        requires { length self.old < TRACE_ROOM }
         ensures { self.new ≡ self.old ++ record { level = level; call = call.now; answer = answer.now } ∷ [] }
     {
         if self.len == self.steps.len() {
@@ -64,7 +67,7 @@ impl Trace {
         self.len = 0;
     }
 
-    /// The calls without their answers. A refusal is for memory.
+    /// The calls without their answers. `Err` only where memory runs out.
     pub fn calls(&self, alloc: Global) -> Result<Steps, AllocError>
         ensures { IfOk result (λ s. s ≡ calls_in self.now) }
     {

@@ -1,5 +1,6 @@
 -- Laws above the answers and the runs. States docs/promises.md, "Sound states" and "Runs".
 use Rattle.std.specs.Prelude.{◌≡◌, ◌≢◌, ◌<◌, ◌≤◌, ◌+◌, ◌==◌, ◌&&◌, ℕ, zero, suc, List, [], ◌∷◌, length, map, filter, slice_get}
+use Rattle.psos_limits.specs.declared.TheConstants.{MOST_REQUESTS}
 use Rattle.psos_calls.specs.declared.request.Request.{Request}
 use Rattle.psos_calls.specs.declared.refusal.Refusal.{Refusal}
 use Rattle.psos_calls.specs.declared.reply.Reply.TheVariants.{No}
@@ -60,7 +61,7 @@ CompleteOrdersHaveAll = (s : Script) (order : List ℕ) → IsWellFormed s → I
 
 -- a legal order from a start has at most 32,768 requests
 abbrev pub OrdersEnd : Type 0
-OrdersEnd = (s : Script) (f : Flat) (order : List ℕ) → IsWellFormed s → IsStart s f → IsLegalFrom s f order → length order ≤ 32768
+OrdersEnd = (s : Script) (f : Flat) (order : List ℕ) → IsWellFormed s → IsStart s f → IsLegalFrom s f order → length order ≤ MOST_REQUESTS
 
 -- a seed has one order of turns at most
 abbrev pub OneTurnsOrder : Type 0

@@ -5,6 +5,7 @@ pub mod Roles
 pub mod Rows
 pub mod Users
 use Rattle.std.specs.Prelude.{◌≡◌, ◌<◌, ◌≤◌, ◌^◌, ◌↔◌, ℕ, Bool, List, [], length, IsSome, Some, slice_get}
+use Rattle.psos_limits.specs.declared.TheConstants.{MOST_OBJECTS, MOST_WINDOWS}
 use Rattle.psos_table.specs.Table.{at, size}
 use Rattle.psos_caps.specs.Capability.{Capability}
 use Rattle.psos_text.specs.declared.name.Name.{Name}
@@ -55,8 +56,8 @@ pub record IsSound (s : Script) (f : Flat) : Type 0 where
   pub processes : (i : ℕ) → i < length s.users → IsSome (at f.boxes (process_of i))
   pub all_users : length f.users ≡ length s.users
   -- the limits of the tables
-  pub few_objects : size f.life ≤ 512
-  pub few_windows : size f.windows ≤ 256
+  pub few_objects : size f.life ≤ MOST_OBJECTS
+  pub few_windows : size f.windows ≤ MOST_WINDOWS
   -- capabilities: on used identifiers, guarded, keeping user objects, and off the representations of directories
   pub below : (p : Place) (cap : Capability) → cap_at f p ≡ Some cap → cap.uid < f.next
   pub guarded : IsGuarded f

@@ -14,6 +14,7 @@ use crate::outcome::{by, does, gives, own, refuse, reg_place};
 use crate::{Change, ChangeList, Flat, Outcome, Place};
 use psos_calls::{Effect, Kind, Path, Private, Refusal, Reply, Right, Tab};
 use psos_caps::Cap;
+use psos_limits::{MOST_ENTRIES, MOST_PATH};
 use psos_text::Name;
 use psos_words::Word;
 use std::alloc::{AllocError, Global};
@@ -79,7 +80,7 @@ pub(crate) fn answer_bind(flat: &Flat, me: &Private, rs: u8, name: Name, rv: u8)
     if dir.names.get(&name).is_some() {
         return refuse(Refusal::NameTaken);
     }
-    if dir.names.len() >= 127 {
+    if dir.names.len() >= MOST_ENTRIES {
         return refuse(Refusal::Exhausted(Tab::Entries));
     }
     does(
@@ -121,7 +122,7 @@ pub(crate) fn answer_unbind(flat: &Flat, me: &Private, rs: u8, name: Name) -> Ou
     )
 }
 
-/// The names are copied: an error is for memory.
+/// The names are copied. `Err` only where memory runs out.
 pub(crate) fn answer_list(
     alloc: Global,
     flat: &Flat,
@@ -158,7 +159,7 @@ pub(crate) fn answer_path(flat: &Flat, me: &Private, rs: u8) -> Outcome
     let Word::Cap(cap) = me.here(rs) else {
         return refuse(Refusal::NotCap);
     };
-    if me.path().len() >= 4 {
+    if me.path().len() >= MOST_PATH {
         return refuse(Refusal::Exhausted(Tab::Path));
     }
     if flat.dirs.get(cap.uid().0).is_none() {

@@ -15,6 +15,7 @@ use crate::outcome::{by, does, gives, own, refuse, reg_place};
 use crate::{Change, ChangeList, Flat, Object, Outcome, Place};
 use psos_calls::{CodeRow, Kind, Private, Refusal, Right, Tab};
 use psos_caps::{Cap, Rights};
+use psos_limits::{MOST_ENTRIES, MOST_OBJECTS, MOST_WORDS};
 use psos_text::Name;
 use psos_words::Word;
 
@@ -65,7 +66,7 @@ pub(crate) fn answer_mkseg(
     let Word::Cap(dir) = me.here(rs) else {
         return refuse(Refusal::NotCap);
     };
-    if len == 0 || len > 512 {
+    if len == 0 || len > MOST_WORDS as u64 {
         return refuse(Refusal::Range);
     }
     if let Some(refusal) = no_room(flat, dir, &name) {
@@ -147,10 +148,10 @@ pub(crate) fn answer_mkobj(
     let Word::Cap(dir) = me.here(rs) else {
         return refuse(Refusal::NotCap);
     };
-    if len == 0 || len > 512 {
+    if len == 0 || len > MOST_WORDS as u64 {
         return refuse(Refusal::Range);
     }
-    if flat.life.len() >= 512 {
+    if flat.life.len() >= MOST_OBJECTS {
         return refuse(Refusal::Exhausted(Tab::Objects));
     }
     let Some(directory) = flat.dirs.get(dir.uid().0) else {
@@ -168,7 +169,7 @@ pub(crate) fn answer_mkobj(
     if directory.names.get(&name).is_some() {
         return refuse(Refusal::NameTaken);
     }
-    if directory.names.len() >= 127 {
+    if directory.names.len() >= MOST_ENTRIES {
         return refuse(Refusal::Exhausted(Tab::Entries));
     }
     let object = Object {
@@ -292,7 +293,7 @@ fn drops(flat: &Flat, kind: Kind, uid: u64, last: Change) -> Outcome
 fn no_room(flat: &Flat, dir: Cap, name: &Name) -> Option<Refusal>
     ensures { (go : OutcomeValue) → make_in flat.now dir name.now go ≡ unless result go }
 {
-    if flat.life.len() >= 512 {
+    if flat.life.len() >= MOST_OBJECTS {
         return Some(Refusal::Exhausted(Tab::Objects));
     }
     let Some(directory) = flat.dirs.get(dir.uid().0) else {
@@ -304,7 +305,7 @@ fn no_room(flat: &Flat, dir: Cap, name: &Name) -> Option<Refusal>
     if directory.names.get(name).is_some() {
         return Some(Refusal::NameTaken);
     }
-    if directory.names.len() >= 127 {
+    if directory.names.len() >= MOST_ENTRIES {
         return Some(Refusal::Exhausted(Tab::Entries));
     }
     None

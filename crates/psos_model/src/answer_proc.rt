@@ -8,6 +8,7 @@ use crate::outcome::{by, does, gives, own, refuse, reg_place};
 use crate::{Change, ChangeList, Flat, Outcome, Place};
 use psos_calls::{Effect, Kind, Private, Refusal, Reply, Right, Tab};
 use psos_caps::Rights;
+use psos_limits::{CALL_CHARGE, MOST_CHARGE, MOST_FRAMES, MOST_MESSAGES};
 use psos_words::Word;
 
 pub(crate) fn answer_send(flat: &Flat, me: &Private, rp: u8, rv: u8) -> Outcome
@@ -28,7 +29,7 @@ pub(crate) fn answer_send(flat: &Flat, me: &Private, rp: u8, rv: u8) -> Outcome
     if let Some(bit) = barred(Rights::of(1), word) {
         return refuse(Refusal::Guarded(bit));
     }
-    if mailbox.len() >= 8 {
+    if mailbox.len() >= MOST_MESSAGES {
         return refuse(Refusal::Exhausted(Tab::Mailbox));
     }
     does(
@@ -72,10 +73,10 @@ pub(crate) fn answer_call(flat: &Flat, me: &Private, rp: u8) -> Outcome
     let Word::Cap(cap) = me.here(rp) else {
         return refuse(Refusal::NotCap);
     };
-    if me.open_bodies() >= 4 {
+    if me.open_bodies() >= MOST_FRAMES {
         return refuse(Refusal::Exhausted(Tab::Frames));
     }
-    if u32::from(me.charge()) + 16 > 4096 {
+    if usize::from(me.charge()) + CALL_CHARGE > MOST_CHARGE {
         return refuse(Refusal::Exhausted(Tab::Requests));
     }
     let Some(code) = flat.codes.get(cap.uid().0) else {

@@ -1,5 +1,6 @@
 // Outcomes of registers, segments and windows.
 ghost use Rattle.std.specs.Prelude.{◌≡◌, ◌+◌, ◌<◌, ◌≤◌, true};
+ghost use Rattle.psos_limits.specs.declared.TheConstants.{MOST_WORDS};
 ghost use Rattle.psos_calls.specs.Language.User.{User, CanMake};
 ghost use Rattle.psos_model.specs.Answer.Segments.{answer_mint, answer_restrict, answer_set, answer_move, answer_add, answer_read, answer_write, answer_window, answer_length};
 ghost use Rattle.psos_calls.specs.Language.Views.{fits_in, part_of};
@@ -11,6 +12,7 @@ use crate::outcome::{by, does, gives, own, refuse, reg_place};
 use crate::{Change, ChangeList, Flat, FlatView, Outcome, Place};
 use psos_calls::{Kind, Private, Refusal, Right, Tab, WinRow};
 use psos_caps::{Rights, Uid};
+use psos_limits::MOST_WINDOWS;
 use psos_words::Word;
 
 pub(crate) fn answer_mint(flat: &Flat, rd: u8) -> Outcome
@@ -164,7 +166,7 @@ pub(crate) fn answer_window(
     if !fits_in(&view, base, len) {
         return refuse(Refusal::Range);
     }
-    if flat.windows.len() >= 256 {
+    if flat.windows.len() >= MOST_WINDOWS {
         return refuse(Refusal::Exhausted(Tab::Windows));
     }
     gives(
@@ -212,7 +214,7 @@ fn fits_in(view: &FlatView, base: u64, len: u64) -> bool
 // That part as a window.
 fn part_of(view: &FlatView, base: u64, len: u64) -> WinRow
     requires fits { fits_in (as_view view.now) base len ≡ true }
-    requires small { view.now.base + view.now.len ≤ 512 }
+    requires small { view.now.base + view.now.len ≤ MOST_WORDS }
     ensures { result ≡ part_of (as_view view.now) base len }
 {
     WinRow {

@@ -18,7 +18,7 @@ use psos_text::Name;
 use std::alloc::{AllocError, Global};
 
 impl Flat {
-    /// Makes a change. A refusal is for memory and changes nothing.
+    /// Makes a change. `Err` only where memory runs out: nothing is changed.
     pub fn apply(&mut self, alloc: Global, change: &Change) -> Result<(), AllocError>
         requires { self.old.next + used change.now < 2 ^ 64 }
         ensures ok { OnOk result (self.new ≡ changed self.old change.now) }
@@ -156,7 +156,7 @@ impl Flat {
         Ok(())
     }
 
-    /// Makes all changes of a request, in order. A refusal is for memory and changes nothing.
+    /// Makes all changes of a request, in order. `Err` only where memory runs out: nothing is changed.
     pub fn apply_all(&mut self, alloc: Global, changes: &ChangeList) -> Result<(), AllocError>
         requires { self.old.next + 2 < 2 ^ 64 }
         ensures ok { OnOk result (self.new ≡ changed_all self.old changes.now) }

@@ -1,6 +1,7 @@
 // The flat state at boot.
 ghost use Rattle.std.specs.Prelude.{◌≡◌, ◌+◌, ◌<◌, ◌≤◌, [], ◌++◌, length, map, IfOk};
 ghost use Rattle.std.specs.List.{flat_map, AllByRecursion};
+ghost use Rattle.psos_limits.specs.declared.TheConstants.{MOST_LINES};
 ghost use Rattle.psos_calls.specs.Language.Script.{IsWellFormed, requests_of};
 ghost use Rattle.psos_model.specs.Flat.Boot.{boot, boot_next, boot_segments, boot_dirs, boot_life, boot_boxes, boot_users, boot_user, boot_regs, scratch_name, home_names, root};
 ghost use Rattle.psos_model.specs.Flat.Within.{IsShort};
@@ -15,8 +16,8 @@ use psos_words::{Registers, Word};
 use std::alloc::{AllocError, Global};
 
 impl Flat {
-    /// The flat state at boot: the root directory, and each user's process, home and scratch segment. A refusal is
-    /// for memory.
+    /// The flat state at boot: the root directory, and each user's process, home and scratch segment. `Err` only where
+    /// memory runs out.
     pub fn boot(alloc: Global, script: &Script) -> Result<Flat, AllocError>
         requires { IsWellFormed script.now }
         ensures { IfOk result (λ f. f ≡ boot script.now) }
@@ -194,7 +195,7 @@ fn scratch_name() -> Name
 
 // How many requests there are in phases.
 fn count(phases: &[Vec<Request>]) -> u16
-    requires { length (flat_map (λ p. p) (map (λ p. p.items) phases.now)) ≤ 241 }
+    requires { length (flat_map (λ p. p) (map (λ p. p.items) phases.now)) ≤ MOST_LINES + 1 }
     ensures { result ≡ length (flat_map (λ p. p) (map (λ p. p.items) phases.now)) }
 {
     match phases.split_first() {

@@ -1,6 +1,7 @@
 // The flat state.
 ghost use Rattle.std.specs.Prelude.{◌≡◌, ◌+◌, ◌≤◌, None, IfSome};
 ghost use Rattle.std.specs.Option.{option_map};
+ghost use Rattle.psos_limits.specs.declared.TheConstants.{MOST_WORDS};
 ghost use Rattle.psos_table.specs.Table.{at};
 ghost use Rattle.psos_words.specs.Words.{word_at};
 ghost use Rattle.psos_model.specs.Flat.{flat_view, words_of};
@@ -37,7 +38,7 @@ impl Flat {
     pub fn view(&self, uid: u64) -> Option<FlatView>
         requires { IsWithin self.now }
         ensures value { option_map as_view result ≡ flat_view self.now uid }
-        ensures small { IfSome result (λ v. v.base + v.len ≤ 512) }
+        ensures small { IfSome result (λ v. v.base + v.len ≤ MOST_WORDS) }
     {
         if let Some(segment) = self.segments.get(uid) {
             return Some(FlatView {
@@ -55,7 +56,7 @@ impl Flat {
         requires within { IsWithin self.now }
         requires no_segment { at self.now.segments uid ≡ None }
         ensures value { option_map as_view result ≡ flat_view self.now uid }
-        ensures small { IfSome result (λ v. v.base + v.len ≤ 512) }
+        ensures small { IfSome result (λ v. v.base + v.len ≤ MOST_WORDS) }
     {
         let Some(window) = self.windows.get(uid) else {
             return None;

@@ -55,7 +55,7 @@ impl Mailbox {
         }
     }
 
-    /// A word goes last into it. A refusal is for memory and changes nothing.
+    /// A word goes last into it. `Err` only where memory runs out: nothing is changed.
     pub fn post(&mut self, word: Word) -> Result<(), AllocError>
         ensures ok { OnOk result (self.new ≡ self.old ++ word ∷ []) }
         ensures err { OnErr result (self.new ≡ self.old) }

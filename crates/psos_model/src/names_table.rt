@@ -52,7 +52,7 @@ impl NamesTable {
         self.entries.len()
     }
 
-    /// Their names, in ascending order. A refusal is for memory.
+    /// Their names, in ascending order. `Err` only where memory runs out.
     pub fn keys(&self, alloc: Global) -> Result<Names, AllocError>
         ensures { IfOk result (λ n. n ≡ map.keys self.now) }
     {
@@ -63,7 +63,8 @@ impl NamesTable {
         Ok(names)
     }
 
-    /// An entry comes, in the place of the one of this name. A refusal is for memory, which only a new name takes;
+    /// An entry comes, in the place of the one of this name. `Err` only where memory runs out. which only a new name
+    /// takes;
     /// it changes nothing.
     pub fn put(&mut self, name: Name, named: Named) -> Result<(), AllocError>
         ensures ok { OnOk result (self.new ≡ map.insert self.old name named) }

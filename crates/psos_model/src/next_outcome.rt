@@ -11,7 +11,7 @@ use std::alloc::{AllocError, Global};
 
 impl Flat {
     /// What user u's next request will do (docs/requests.md, "Answers"); none where there is no such user, or no
-    /// request is left to it. An error is for memory.
+    /// request is left to it. `Err` only where memory runs out.
     pub fn next_outcome(
         &self,
         alloc: Global,

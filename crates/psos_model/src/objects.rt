@@ -59,7 +59,8 @@ impl Objects {
         false
     }
 
-    /// Puts an object under an identifier, in the place of the one there. A refusal is for memory, which only a new
+    /// Puts an object under an identifier, in the place of the one there. `Err` only where memory runs out. which only
+    /// a new
     /// identifier takes; it changes nothing.
     pub fn put(&mut self, uid: u64, object: Object) -> Result<(), AllocError>
         ensures ok { OnOk result (self.new ≡ put self.old uid object) }

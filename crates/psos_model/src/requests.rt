@@ -1,5 +1,6 @@
 // The outcome of a request.
 ghost use Rattle.std.specs.Prelude.{◌≡◌, ◌+◌, ◌<◌, ◌^◌, IfOk};
+ghost use Rattle.psos_limits.specs.declared.TheConstants.{MOST_CODES};
 ghost use Rattle.psos_calls.specs.Language.Request.{InRange};
 ghost use Rattle.psos_calls.specs.Language.User.{CanMake};
 ghost use Rattle.psos_model.specs.Answer.{outcome};
@@ -21,14 +22,14 @@ use crate::{Flat, Outcome};
 use psos_calls::{Private, Request};
 use std::alloc::{AllocError, Global};
 
-/// What a request of a user does. An error is for memory, which only the names of a `list` take.
+/// What a request of a user does. `Err` only where memory runs out. which only the names of a `list` take.
 pub(crate) fn outcome_of(
     alloc: Global,
     flat: &Flat,
     me: &Private,
     request: &Request,
 ) -> Result<Outcome, AllocError>
-    requires range { InRange 64 request.now }
+    requires range { InRange MOST_CODES request.now }
     requires within { IsWithin flat.now }
     requires room { flat.now.next + 2 < 2 ^ 64 }
     ensures value { IfOk result (λ o. o ≡ outcome flat.now me.now request.now) }

@@ -11,7 +11,7 @@ use std::alloc::{AllocError, Global};
 
 impl Flat {
     /// Answers user u's next request. Where there is no such user, or no request is left to it, nothing changes, and
-    /// the answer is `ok` at place 0. An error is for memory and changes nothing.
+    /// the answer is `ok` at place 0. `Err` only where memory runs out: nothing is changed.
     pub fn step(&mut self, alloc: Global, script: &Script, user: u8) -> Result<Answer, AllocError>
         requires script { IsWellFormed script.now }
         requires state { CanStep self.old user }

@@ -4,6 +4,7 @@ use Rattle.std.specs.Int.{w64, to_be_bytes, from_be_bytes}
 use Rattle.std.specs.List.{list_any}
 use Rattle.std.specs.Option.{option_and_then}
 use Rattle.std.specs.Str.{bytes_eq}
+use Rattle.psos_limits.specs.declared.TheConstants.{MOST_WORDS, MOST_ENTRIES}
 use Rattle.psos_caps.specs.Capability.{Capability}
 use Rattle.psos_text.specs.declared.name.Name.{Name}
 use Rattle.psos_text.specs.Name.{is_name, name_text, padded}
@@ -111,11 +112,11 @@ are_apart (Used e ∷ rest) = not (list_any (has_name e.name) rest) && are_apart
 -- the first 127 of 128 slots, of which the last was never used
 abbrev pub entry_slots : List Slot → Option (List Slot)
 entry_slots slots =
-    if (length slots == 128) && are_never (drop 127 slots) && are_in_order slots && are_apart slots then Some (take 127 slots) else None
+    if (length slots == 128) && are_never (drop MOST_ENTRIES slots) && are_in_order slots && are_apart slots then Some (take MOST_ENTRIES slots) else None
 
 -- the 127 entry slots of a directory by its first words, where all words after them are data 0, if they are an entry list
 unfoldable pub decode : List Word → Option (List Slot)
-decode words = option_and_then entry_slots (slots_of (words ++ zeros (512 - length words)))
+decode words = option_and_then entry_slots (slots_of (words ++ zeros (MOST_WORDS - length words)))
 
 -- a page has a slot that was never used. (Its first word alone tells that.)
 abbrev pub has_never : List Word → Bool

@@ -1,5 +1,6 @@
 -- A user's own part, and what the close of a request changes in it. States docs/system.md, "A user's own part".
 use Rattle.std.specs.Prelude.{◌+◌, ◌<◌, ◌^◌, ℕ, Bool, false, List, [], ◌∷◌, ◌++◌, length, slice_get, slice_set, if◌then◌else◌, nat_le, Option, Some, None}
+use Rattle.psos_limits.specs.declared.TheConstants.{CALL_CHARGE, MOST_PATH, MOST_FRAMES}
 use Rattle.psos_caps.specs.Capability.{Capability}
 use Rattle.psos_words.specs.declared.word.Word.{Word}
 use Rattle.psos_words.specs.Words.{zeros, word_at}
@@ -73,7 +74,7 @@ settled x Nothing = x
 settled x (Put i w) = with_reg x x.frames i w
 settled x (Push cap) = record x { path = x.path ++ cap ∷ [] }
 settled x (Enter label link) =
-    record x { charge = x.charge + 16; frames = record { regs = entered_regs (here x) link; label = label; line = 0 } ∷ x.frames }
+    record x { charge = x.charge + CALL_CHARGE; frames = record { regs = entered_regs (here x) link; label = label; line = 0 } ∷ x.frames }
 
 -- the innermost open body has no line left
 abbrev pub is_over : Script → List Frame → Bool
@@ -108,8 +109,8 @@ CanCount x (q ∷ outer) = (x.within + 1 < 2 ^ 16) × (q.line + 1 < 2 ^ 8)
 abbrev pub CanMake : User → Effect → Type 0
 CanMake x Nothing = Unit {0}
 CanMake x (Put i word) = i < 16
-CanMake x (Push cap) = length x.path < 4
-CanMake x (Enter label link) = (x.charge + 16 < 2 ^ 16) × (length x.frames < 4)
+CanMake x (Push cap) = length x.path < MOST_PATH
+CanMake x (Enter label link) = (x.charge + CALL_CHARGE < 2 ^ 16) × (length x.frames < MOST_FRAMES)
 
 pub record CanSettle (x : User) (e : Effect) : Type 0 where
   pub count : CanCount x x.frames

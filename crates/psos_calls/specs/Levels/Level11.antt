@@ -1,5 +1,6 @@
 -- Level 11: user objects. States docs/levels.md, "Calls".
 use Rattle.std.specs.Prelude.{⊤, ◌≡◌, ◌<◌, nat_lt, IsSome, None}
+use Rattle.psos_limits.specs.declared.TheConstants.{MOST_OBJECTS}
 use Rattle.psos_table.specs.Table.{Table, at, put, without, size}
 use Rattle.psos_calls.specs.declared.kind.Kind.{Kind}
 use Rattle.psos_calls.specs.declared.kind.Kind.TheVariants.{Segment}
@@ -16,7 +17,7 @@ abbrev pub LifeState : Type 0
 LifeState = Table Kind
 
 abbrev pub room : LifeState → LevelAnswer
-room s = if_holds (nat_lt (size s) 512) (No (Exhausted Objects)) Done
+room s = if_holds (nat_lt (size s) MOST_OBJECTS) (No (Exhausted Objects)) Done
 
 abbrev pub act11 : LifeState → LevelCall → LifeState × LevelAnswer
 act11 s Room = (s, room s)
@@ -27,7 +28,7 @@ act11 s _ = (s, Done)
 
 -- the condition of each call
 abbrev pub Can11 : LifeState → LevelCall → Type 0
-Can11 s (Enrol uid kind) = (at s uid.0 ≡ None) × (size s < 512)
+Can11 s (Enrol uid kind) = (at s uid.0 ≡ None) × (size s < MOST_OBJECTS)
 Can11 s (KindOf uid) = IsSome (at s uid.0)
 Can11 s (Forget uid) = IsSome (at s uid.0)
 Can11 s _ = ⊤

@@ -1,5 +1,6 @@
 -- Level 12: processes and their mailboxes. States docs/levels.md, "Calls".
 use Rattle.std.specs.Prelude.{⊤, ℕ, IsSome, nat_lt, List, [], ◌∷◌, ◌++◌, length}
+use Rattle.psos_limits.specs.declared.TheConstants.{MOST_MESSAGES}
 use Rattle.psos_table.specs.Table.{Table, at, put}
 use Rattle.psos_caps.specs.Capability.{Capability}
 use Rattle.psos_words.specs.declared.word.Word.{Word}
@@ -24,7 +25,7 @@ posted s to word =
     if_there (at s to.uid) (s, No (Absent Process)) (λ box.
     if_holds (has to Send) (s, No (Lacks Send)) (
     if_none (barred 1 word) (λ b. (s, No (Guarded b))) (
-    if_holds (nat_lt (length box) 8) (s, No (Exhausted Mailbox)) (
+    if_holds (nat_lt (length box) MOST_MESSAGES) (s, No (Exhausted Mailbox)) (
     (put s to.uid (box ++ word ∷ []), Done)))))
 
 abbrev pub drawn_from : BoxState → ℕ → List Word → BoxState × LevelAnswer

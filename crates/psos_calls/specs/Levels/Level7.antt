@@ -1,5 +1,6 @@
 -- Level 7: pages. States docs/levels.md, "Pages and slots".
 use Rattle.std.specs.Prelude.{⊤, ◌≡◌, ℕ, suc, ◌+◌, ◌*◌, ◌/◌, ◌%◌, ◌<◌, ◌≤◌, List, [], ◌∷◌, Option, Some, None, length, take, drop, slice_set, slice_index_or}
+use Rattle.psos_limits.specs.declared.TheConstants.{MOST_WORDS}
 use Rattle.psos_words.specs.declared.word.Word.{Word}
 use Rattle.psos_words.specs.Words.{zeros, word_at}
 use Rattle.psos_calls.specs.declared.level_call.LevelCall.{LevelCall}
@@ -47,7 +48,7 @@ first_free (None ∷ rest) = 0
 first_free (Some words ∷ rest) = suc (first_free rest)
 
 abbrev pub act7 : Pages → LevelCall → Pages × LevelAnswer
-act7 p PageTake = (slice_set p (first_free p) (Some (zeros 512)), Slot (first_free p))
+act7 p PageTake = (slice_set p (first_free p) (Some (zeros MOST_WORDS)), Slot (first_free p))
 act7 p (PageDrop slot) = (slice_set p slot None, Done)
 act7 p (WordGet page off) = (p, Got (word_at (around p page) (place_in_slot page off)))
 act7 p (WordPut page off word) = (with_words p page (slice_set (around p page) (place_in_slot page off) word), Done)

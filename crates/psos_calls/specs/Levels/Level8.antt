@@ -1,6 +1,7 @@
 -- Level 8: segments and windows. States docs/levels.md, "Calls".
 use Rattle.std.specs.Prelude.{⊤, ◌≡◌, ℕ, ◌+◌, ◌*◌, ◌/◌, ◌%◌, ◌<◌, ◌≤◌, IsSome, nat_lt, Option, Some, None}
 use Rattle.std.specs.Option.{option_map}
+use Rattle.psos_limits.specs.declared.TheConstants.{SLOTS, MOST_WORDS, MOST_WINDOWS}
 use Rattle.psos_table.specs.Table.{Table, at, put, without, kept, size}
 use Rattle.psos_caps.specs.Capability.{Capability}
 use Rattle.psos_words.specs.declared.word.Word.{Word}
@@ -62,7 +63,7 @@ win_room s cap base len =
     if_there (view s cap.uid) (No (Absent Segment)) (λ v.
     if_holds (has cap Window) (No (Lacks Window)) (
     if_holds (fits_in v base len) (No Range) (
-    if_holds (nat_lt (size s.windows) 256) (No (Exhausted Windows)) (
+    if_holds (nat_lt (size s.windows) MOST_WINDOWS) (No (Exhausted Windows)) (
     Done))))
 
 -- the windows with one more, where the view is there
@@ -92,7 +93,7 @@ IsNew s u = (at s.segments u ≡ None) × (at s.windows u ≡ None)
 -- the condition of each call
 abbrev pub Can8 : SegState → LevelCall → Type 0
 Can8 s (SlotOf uid) = IsSome (at s.segments uid.0)
-Can8 s (SegMake uid slot len guard) = IsNew s uid.0 × (slot < 521) × (1 ≤ len) × (len ≤ 512)
+Can8 s (SegMake uid slot len guard) = IsNew s uid.0 × (slot < SLOTS) × (1 ≤ len) × (len ≤ MOST_WORDS)
 Can8 s (SegGone uid) = IsSome (at s.segments uid.0)
 Can8 s (WinMake uid cap base len) = IsNew s uid.0 × (win_room s cap base len ≡ Done)
 Can8 s _ = ⊤

@@ -1,5 +1,6 @@
 -- Plans of directories and name spaces. States docs/requests.md, "Plans".
 use Rattle.std.specs.Prelude.{ℕ, false, List, [], ◌∷◌, not, nat_lt, length}
+use Rattle.psos_limits.specs.declared.TheConstants.{MOST_PATH}
 use Rattle.psos_caps.specs.Capability.{Capability}
 use Rattle.psos_words.specs.declared.word.Word.{Word}
 use Rattle.psos_words.specs.declared.word.Word.TheVariants as words
@@ -55,7 +56,7 @@ plan_list r rs =
 abbrev pub plan_path : List Word → List Capability → ℕ → Plan
 plan_path r path rs =
     if_cap (word_at r rs) (refuse NotCap) (λ cap.
-    if_holds (nat_lt (length path) 4) (refuse (Exhausted Path)) (
+    if_holds (nat_lt (length path) MOST_PATH) (refuse (Exhausted Path)) (
     Ask (DirAt cap rights.Lookup) (λ a. if_guard a (λ guard.
     Close replies.Fine (Push cap)))))
 

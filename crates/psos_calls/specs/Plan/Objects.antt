@@ -1,5 +1,6 @@
 -- Plans of user objects. States docs/requests.md, "Plans".
 use Rattle.std.specs.Prelude.{ℕ, Bool, true, false, Some, None, List, [], ◌∷◌}
+use Rattle.psos_limits.specs.declared.TheConstants.{MOST_WORDS}
 use Rattle.psos_caps.specs.declared.rights.Rights.{Rights}
 use Rattle.psos_words.specs.declared.word.Word.{Word}
 use Rattle.psos_words.specs.Words.{word_at}
@@ -42,7 +43,7 @@ plan_mkdir r rd rs name g =
     if_cap (word_at r rs) (refuse NotCap) (λ dir.
     make_in dir name (λ d k.
     with_fresh (λ new. with_fresh (λ rep.
-    with_segment rep.uid 512 (guard_of g) (
+    with_segment rep.uid MOST_WORDS (guard_of g) (
     Ask (ObjMake (uid new.uid) None rep) (λ a. if_done a (
     Ask (DirMake (uid new.uid) (guard_of g)) (λ b. if_done b (
     enrolled d k name kinds.Directory new rd)))))))))

@@ -1,5 +1,6 @@
 -- Plans of processes and procedure records. States docs/requests.md, "Plans".
 use Rattle.std.specs.Prelude.{ℕ, ◌+◌, List, length, nat_lt, nat_le}
+use Rattle.psos_limits.specs.declared.TheConstants.{MOST_CHARGE, CALL_CHARGE, MOST_FRAMES}
 use Rattle.psos_words.specs.declared.word.Word.{Word}
 use Rattle.psos_words.specs.Words.{word_at}
 use Rattle.psos_calls.specs.declared.tab.Tab.TheVariants.{Frames, Requests}
@@ -23,7 +24,7 @@ plan_recv process rd = Ask (Draw (uid process)) (λ a. if_got a (λ w. give rd w
 abbrev pub plan_call : User → List Word → ℕ → Plan
 plan_call me r rp =
     if_cap (word_at r rp) (refuse NotCap) (λ cap.
-    if_holds (nat_lt (length me.frames) 4) (refuse (Exhausted Frames)) (
-    if_holds (nat_le (me.charge + 16) 4096) (refuse (Exhausted Requests)) (
+    if_holds (nat_lt (length me.frames) MOST_FRAMES) (refuse (Exhausted Frames)) (
+    if_holds (nat_le (me.charge + CALL_CHARGE) MOST_CHARGE) (refuse (Exhausted Requests)) (
     Ask (Enter cap) (λ a. if_entered a (λ label link.
     Close replies.Fine (effects.Enter label link))))))

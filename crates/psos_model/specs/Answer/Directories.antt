@@ -1,6 +1,7 @@
 -- Outcomes of directories and name spaces. States docs/requests.md, "Answers".
 use Rattle.std.specs.Prelude.{ℕ, not, nat_lt, List, [], ◌∷◌, length, None}
 use Rattle.std.specs.FinMap.{keys}
+use Rattle.psos_limits.specs.declared.TheConstants.{MOST_PATH}
 use Rattle.psos_table.specs.Table.{at}
 use Rattle.psos_caps.specs.Capability.{Capability}
 use Rattle.psos_text.specs.declared.name.Name.{Name}
@@ -55,7 +56,7 @@ answer_list f x rs =
 abbrev pub answer_path : Flat → User → ℕ → Outcome
 answer_path f x rs =
     if_cap (word_at (here x) rs) (refuse NotCap) (λ cap.
-    if_holds (nat_lt (length x.path) 4) (refuse (Exhausted Path)) (
+    if_holds (nat_lt (length x.path) MOST_PATH) (refuse (Exhausted Path)) (
     if_dir f cap rights.Lookup (λ d.
     record { changes = []; effect = Push cap; source = own (reg_place x x.frames rs); reply = replies.Fine })))
 

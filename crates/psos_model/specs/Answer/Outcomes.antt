@@ -1,6 +1,7 @@
 -- What a request does, and the tests that its refusals are written in. States docs/requests.md, "Answers".
 use Rattle.std.specs.Prelude.{ℕ, nat_lt, List, [], Option, Some, None}
 use Rattle.std.specs.FinMap.{len}
+use Rattle.psos_limits.specs.declared.TheConstants.{MOST_OBJECTS, MOST_ENTRIES}
 use Rattle.psos_table.specs.Table.{at, size}
 use Rattle.psos_caps.specs.Capability.{Capability}
 use Rattle.psos_text.specs.declared.name.Name.{Name}
@@ -70,11 +71,11 @@ if_dir f cap right go =
 abbrev pub if_room : Directory → Name → Outcome → Outcome
 if_room d name go =
     if_none (named d name) (λ _. refuse NameTaken) (
-    if_holds (nat_lt (len d.names) 127) (refuse (Exhausted Entries)) go)
+    if_holds (nat_lt (len d.names) MOST_ENTRIES) (refuse (Exhausted Entries)) go)
 
 -- one more user object fits
 abbrev pub if_object_room : Flat → Outcome → Outcome
-if_object_room f go = if_holds (nat_lt (size f.life) 512) (refuse (Exhausted Objects)) go
+if_object_room f go = if_holds (nat_lt (size f.life) MOST_OBJECTS) (refuse (Exhausted Objects)) go
 
 -- room for an object, and for its entry in a directory by a capability with the right create
 abbrev pub make_in : Flat → Capability → Name → Outcome → Outcome

@@ -1,5 +1,6 @@
 -- Outcomes of processes and procedure records. States docs/requests.md, "Answers".
 use Rattle.std.specs.Prelude.{ℕ, ◌+◌, List, [], ◌∷◌, length, nat_lt, nat_le}
+use Rattle.psos_limits.specs.declared.TheConstants.{MOST_CHARGE, CALL_CHARGE, MOST_FRAMES, MOST_MESSAGES}
 use Rattle.psos_table.specs.Table.{at}
 use Rattle.psos_words.specs.declared.word.Word.{Word}
 use Rattle.psos_words.specs.Words.{word_at}
@@ -26,7 +27,7 @@ answer_send f x rp rv =
     if_there (at f.boxes to.uid) (refuse (Absent kinds.Process)) (λ box.
     if_holds (has to rights.Send) (refuse (Lacks rights.Send)) (
     if_none (barred 1 (word_at (here x) rv)) (λ b. refuse (Guarded b)) (
-    if_holds (nat_lt (length box) 8) (refuse (Exhausted Mailbox)) (
+    if_holds (nat_lt (length box) MOST_MESSAGES) (refuse (Exhausted Mailbox)) (
     does (Post to.uid (word_at (here x) rv) ∷ []) (own (reg_place x x.frames rv)))))))
 
 -- the first message of the own mailbox
@@ -40,8 +41,8 @@ answer_recv f x rd = if_there (at f.boxes x.process) (refuse Empty) (λ box. rec
 abbrev pub answer_call : Flat → User → ℕ → Outcome
 answer_call f x rp =
     if_cap (word_at (here x) rp) (refuse NotCap) (λ cap.
-    if_holds (nat_lt (length x.frames) 4) (refuse (Exhausted Frames)) (
-    if_holds (nat_le (x.charge + 16) 4096) (refuse (Exhausted Requests)) (
+    if_holds (nat_lt (length x.frames) MOST_FRAMES) (refuse (Exhausted Frames)) (
+    if_holds (nat_le (x.charge + CALL_CHARGE) MOST_CHARGE) (refuse (Exhausted Requests)) (
     if_there (at f.codes cap.uid) (refuse (Absent kinds.Code)) (λ code.
     if_holds (has cap rights.Enter) (refuse (Lacks rights.Enter)) (
     record { changes = []; effect = Enter code.label code.link; source = by (Link (uid cap.uid)) rights.Enter; reply = Fine })))))

@@ -1,5 +1,6 @@
 -- Outcomes of registers, segments and windows. States docs/requests.md, "Answers".
 use Rattle.std.specs.Prelude.{ℕ, ◌+◌, ◌^◌, [], ◌∷◌, None, nat_lt}
+use Rattle.psos_limits.specs.declared.TheConstants.{MOST_WINDOWS}
 use Rattle.psos_table.specs.Table.{size}
 use Rattle.psos_caps.specs.Capability.{full, restricted}
 use Rattle.psos_words.specs.declared.word.Word.TheVariants as words
@@ -59,7 +60,7 @@ answer_window f x rd rs base len =
     if_cap (word_at (here x) rs) (refuse NotCap) (λ cap.
     if_view f cap rights.Window (λ v.
     if_holds (fits_in v base len) (refuse Range) (
-    if_holds (nat_lt (size f.windows) 256) (refuse (Exhausted Windows)) (
+    if_holds (nat_lt (size f.windows) MOST_WINDOWS) (refuse (Exhausted Windows)) (
     gives (MakeWindow f.next (part_of v base len) ∷ Fresh ∷ []) rd (words.Cap (record { uid = f.next; rights = cap.rights })) None))))
 
 abbrev pub answer_length : Flat → User → ℕ → ℕ → Outcome

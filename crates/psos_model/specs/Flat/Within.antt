@@ -1,6 +1,7 @@
 -- Words that lie where they should, and the views of code.
 use Rattle.std.specs.Option.{option_map}
 use Rattle.std.specs.Prelude.{None, Option, ◌≡◌, ℕ, ◌+◌, ◌≤◌, length, Some}
+use Rattle.psos_limits.specs.declared.TheConstants.{MOST_WORDS, MOST_LINES}
 use Rattle.psos_table.specs.Table.{at}
 use Rattle.psos_caps.specs.Capability.{Capability}
 use Rattle.psos_text.specs.declared.name.Name.{Name}
@@ -17,7 +18,7 @@ use Rattle.psos_model.specs.Flat.{Flat, Segment, Named, named}
 
 -- a segment has at most 512 words, and a window lies within its segment where that lives
 pub record IsWithin (f : Flat) : Type 0 where
-  pub segments : (u : ℕ) (s : Segment) → at f.segments u ≡ Some s → length s.words ≤ 512
+  pub segments : (u : ℕ) (s : Segment) → at f.segments u ≡ Some s → length s.words ≤ MOST_WORDS
   pub windows : (u : ℕ) (w : WinRow) (s : Segment) → at f.windows u ≡ Some w → at f.segments w.seg.0 ≡ Some s → w.base + w.len ≤ length s.words
 
 -- a view of code as one of the definitions
@@ -26,7 +27,7 @@ as_view v = record { seg = v.seg; base = v.base; len = v.len; guard = v.guard }
 
 -- a user of a script asks at most so much
 abbrev pub IsShort : UserScript → Type 0
-IsShort user = length (requests_of user) ≤ 241
+IsShort user = length (requests_of user) ≤ MOST_LINES + 1
 
 -- what a name stands for in a directory that is live and may be looked up
 abbrev pub found_in : Flat → Capability → Name → Option Capability

@@ -1,6 +1,7 @@
 -- The levels at boot. States docs/levels.md, "Pages and slots".
 use Rattle.std.specs.Prelude.{ℕ, ◌+◌, ◌-◌, ◌*◌, true, List, [], ◌∷◌, ◌++◌, length, replicate, Some, None}
 use Rattle.std.specs.FinMap as map
+use Rattle.psos_limits.specs.declared.TheConstants.{MOST_WORDS}
 use Rattle.psos_table.specs.Table.{Table, put}
 use Rattle.psos_caps.specs.Capability.{full}
 use Rattle.psos_words.specs.declared.word.Word.{Word}
@@ -23,20 +24,20 @@ scratch_slot i = 2 + 2 * i
 
 -- the words of user i's home: the entry of its scratch segment in entry slot 0
 abbrev pub home_words : ℕ → List Word
-home_words i = written (zeros 512) 0 (entry_words scratch_name (full (scratch_of i)) true)
+home_words i = written (zeros MOST_WORDS) 0 (entry_words scratch_name (full (scratch_of i)) true)
 
 -- the taken slots of users, and then the free ones
 abbrev pub user_slots : ℕ → List UserScript → Pages
 user_slots i [] = []
-user_slots i (user ∷ users) = Some (home_words i) ∷ Some (zeros 512) ∷ user_slots (i + 1) users
+user_slots i (user ∷ users) = Some (home_words i) ∷ Some (zeros MOST_WORDS) ∷ user_slots (i + 1) users
 
 -- all slots
 abbrev pub boot_pages : Script → Pages
-boot_pages s = Some (zeros 512) ∷ (user_slots 0 s.users ++ replicate (520 - 2 * length s.users) None)
+boot_pages s = Some (zeros MOST_WORDS) ∷ (user_slots 0 s.users ++ replicate (520 - 2 * length s.users) None)
 
 -- the representation of a directory in this slot
 abbrev pub rep_row : ℕ → SegRow
-rep_row slot = record { slot = slot; len = 512; guard = guard_1 }
+rep_row slot = record { slot = slot; len = MOST_WORDS; guard = guard_1 }
 
 -- user i's scratch segment
 abbrev pub scratch_row : ℕ → SegRow

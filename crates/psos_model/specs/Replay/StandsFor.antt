@@ -1,6 +1,7 @@
 -- When the levels and the users' own parts stand for a flat state. States docs/promises.md, "Stands for".
 use Rattle.std.specs.Prelude.{◌≡◌, ◌⊎◌, ℕ, ◌<◌, List, length, Option, Some, None}
 use Rattle.std.specs.Option.{option_map}
+use Rattle.psos_limits.specs.declared.TheConstants.{SLOTS, MOST_WORDS}
 use Rattle.psos_table.specs.Table.{at}
 use Rattle.psos_caps.specs.Capability.{full}
 use Rattle.psos_text.specs.declared.name.Name.{Name}
@@ -53,14 +54,14 @@ pub record StandsFor (y : System) (f : Flat) : Type 0 where
   pub objects : (u : ℕ) → at y.levels.types.objects u ≡ object_row (at f.objects u) (at f.dirs u)
   -- the live segments of level 8 are the flat segments and the representations of directories
   pub segments : (u : ℕ) (s : Segment) → at f.segments u ≡ Some s → IsLive y u (length s.words) s.guard.0
-  pub reps : (u : ℕ) (d : Directory) → at f.dirs u ≡ Some d → IsLive y d.rep 512 d.guard.0
+  pub reps : (u : ℕ) (d : Directory) → at f.dirs u ≡ Some d → IsLive y d.rep MOST_WORDS d.guard.0
   pub no_other : (u : ℕ) (r : SegRow) → at y.levels.segs.segments u ≡ Some r
       → ((s : Segment) × (at f.segments u ≡ Some s)) ⊎ ((v : ℕ) × ((d : Directory) × (at f.dirs v ≡ Some d) × (d.rep ≡ u)))
   -- live segments have different slots, and these are exactly the taken slots
   pub apart : (u v : ℕ) (r t : SegRow) → at y.levels.segs.segments u ≡ Some r → at y.levels.segs.segments v ≡ Some t → r.slot ≡ t.slot → u ≡ v
-  pub taken : (u : ℕ) (r : SegRow) → at y.levels.segs.segments u ≡ Some r → IsTaken y.levels.pages r.slot × (length (slot_words y.levels.pages r.slot) ≡ 512)
+  pub taken : (u : ℕ) (r : SegRow) → at y.levels.segs.segments u ≡ Some r → IsTaken y.levels.pages r.slot × (length (slot_words y.levels.pages r.slot) ≡ MOST_WORDS)
   pub used : (slot : ℕ) → IsTaken y.levels.pages slot → (u : ℕ) × ((r : SegRow) × (at y.levels.segs.segments u ≡ Some r) × (r.slot ≡ slot))
-  pub slots : length y.levels.pages ≡ 521
+  pub slots : length y.levels.pages ≡ SLOTS
   -- the words of the flat segments, and the entries of the directories
   pub words : (u : ℕ) (s : Segment) → at f.segments u ≡ Some s → (i : ℕ) → i < length s.words → word_at (stored y u) i ≡ word_at s.words i
   pub entries : (u : ℕ) (d : Directory) → at f.dirs u ≡ Some d → HoldsEntries (stored y d.rep) d

@@ -1,6 +1,7 @@
 -- What each live thing is in a sound state. States docs/promises.md, "Sound states".
 use Rattle.std.specs.Prelude.{◌≡◌, ◌<◌, ◌≤◌, ◌+◌, ◌⊎◌, ℕ, true, List, length, IsSome, Some}
 use Rattle.std.specs.FinMap.{len}
+use Rattle.psos_limits.specs.declared.TheConstants.{MOST_WORDS, MOST_ENTRIES, MOST_MESSAGES}
 use Rattle.psos_table.specs.Table.{at}
 use Rattle.psos_words.specs.declared.word.Word.{Word}
 use Rattle.psos_words.specs.Guard.{has_bit}
@@ -30,7 +31,7 @@ pub record IsSoundSegment (role : ℕ → Role) (f : Flat) (u : ℕ) (x : Segmen
   pub below : u < f.next
   pub role-is : (role u ≡ roles.Segment) ⊎ IsPart role f u
   pub some : 1 ≤ length x.words
-  pub few : length x.words ≤ 512
+  pub few : length x.words ≤ MOST_WORDS
   pub guard : IsGuard x.guard.0
 
 -- a window of at least one word, within a segment that is live
@@ -58,7 +59,7 @@ pub record IsSoundDirectory (role : ℕ → Role) (f : Flat) (u : ℕ) (x : Dire
   pub role-is : role u ≡ roles.Directory
   pub rep_below : x.rep < f.next
   pub hidden : role x.rep ≡ HiddenIn u
-  pub few : len x.names ≤ 127
+  pub few : len x.names ≤ MOST_ENTRIES
   pub guard : IsGuard x.guard.0
 
 -- the process of a user, with at most 8 messages
@@ -68,7 +69,7 @@ pub record IsSoundProcess (s : Script) (role : ℕ → Role) (f : Flat) (u : ℕ
   pub user : ℕ
   pub of_user : user < length s.users
   pub of_boot : u ≡ process_of user
-  pub few : length box ≤ 8
+  pub few : length box ≤ MOST_MESSAGES
 
 -- a procedure record whose label is a code block of the script
 pub record IsSoundCode (s : Script) (role : ℕ → Role) (f : Flat) (u : ℕ) (x : CodeRow) : Type 0 where

@@ -1,6 +1,7 @@
 -- What each user's own part is in a sound state. States docs/promises.md, "Sound states".
 use Rattle.std.specs.Prelude.{◌≡◌, ◌<◌, ◌≤◌, ◌+◌, ◌-◌, ℕ, List, [], ◌∷◌, length}
 use Rattle.std.specs.List.{AllByRecursion}
+use Rattle.psos_limits.specs.declared.TheConstants.{MOST_CHARGE, MOST_PATH, MOST_FRAMES}
 use Rattle.psos_calls.specs.declared.frame.Frame.{Frame}
 use Rattle.psos_calls.specs.Language.Script.{Script, body_of}
 use Rattle.psos_calls.specs.Language.User.{User}
@@ -26,9 +27,9 @@ pub record IsSoundUser (s : Script) (u : ℕ) (x : User) : Type 0 where
   pub number : x.number ≡ u
   pub process : x.process ≡ process_of u
   pub regs : length x.regs ≡ 16
-  pub path : length x.path ≤ 4
+  pub path : length x.path ≤ MOST_PATH
   pub frames : AllByRecursion (IsSoundFrame s) x.frames
-  pub few : length x.frames ≤ 4
+  pub few : length x.frames ≤ MOST_FRAMES
   pub line : HasLine s x.frames
-  pub most : x.charge ≤ 4096
+  pub most : x.charge ≤ MOST_CHARGE
   pub paid : x.within + lines_left s x.frames ≤ x.charge

@@ -1,6 +1,7 @@
 -- The bytes that spell a script. States docs/program.md, "Scripts".
 use Rattle.std.specs.Prelude.{◌≡◌, ℕ, ◌+◌, ◌≤◌, Bool, true, ◌&&◌, ◌==◌, not, nat_le, List, [], ◌∷◌, ◌++◌, length, map, filter, get_or, codes, IsTrue}
 use Rattle.std.specs.List.{flat_map, list_all, AllByRecursion}
+use Rattle.psos_limits.specs.declared.TheConstants.{MOST_INPUT, MOST_LINE_BYTES}
 use Rattle.psos_text.specs.Lines.{lines_of, words_of}
 use Rattle.psos_calls.specs.declared.request.Request.{Request}
 use Rattle.psos_calls.specs.Language.Request.{InRange}
@@ -54,7 +55,7 @@ is_printable b = nat_le 32 b && nat_le b 126
 
 -- at most 200 bytes, all of them printable
 abbrev pub is_line : List ℕ → Bool
-is_line line = nat_le (length line) 200 && list_all is_printable line
+is_line line = nat_le (length line) MOST_LINE_BYTES && list_all is_printable line
 
 -- a body names the labels of blocks before it and its own alone; so many blocks stand before these
 abbrev pub AreInOrder : ℕ → List CodeBlock → Type 0
@@ -63,7 +64,7 @@ AreInOrder before (c ∷ cs) = AllByRecursion (InRange (before + 1)) c.body × A
 
 -- The bytes are few and their lines short and printable. Those that are not skipped have the words of the script, in which no body names a later block.
 pub record IsScript (bytes : List ℕ) (s : Script) : Type 0 where
-  pub short : length bytes ≤ 1048576
+  pub short : length bytes ≤ MOST_INPUT
   pub lines : AllByRecursion (λ line. IsTrue (is_line line)) (lines_of bytes)
   pub spelled : kept (lines_of bytes) ≡ script_lines s
   pub order : AreInOrder 0 s.codes

@@ -1,7 +1,11 @@
-//! The limits of the system (docs/system.md, "Limits").
+//! The limits of the system (docs/system.md, "Limits"). Code and definitions name them from here alone.
+#![tactic(auto)]
 
 /// Bytes of an input.
 pub const MOST_INPUT: usize = 1_048_576;
+
+/// Bytes of a line of a script.
+pub const MOST_LINE_BYTES: usize = 200;
 
 /// Users of a script.
 pub const MOST_USERS: usize = 8;
@@ -42,5 +46,20 @@ pub const MOST_CHARGE: usize = 4096;
 /// What one entered call adds to a user's charge.
 pub const CALL_CHARGE: usize = 16;
 
+/// Requests of all users in a run, lines of bodies included.
+pub const MOST_REQUESTS: usize = 32_768;
+
+/// Level calls of one request.
+pub const MOST_CALLS: usize = 44;
+
+/// Steps for which a trace has room.
+pub const TRACE_ROOM: usize = 64;
+
 /// Slots of pages: each segment and each representation has one.
 pub const SLOTS: usize = 521;
+
+/// Frames of pages that can be asked for, at least.
+pub const LEAST_PAGE_FRAMES: u16 = 8;
+
+/// Frames of pages that can be asked for, at most.
+pub const MOST_PAGE_FRAMES: u16 = 256;
