@@ -2,3 +2,4 @@ pub mod Capabilities
 pub mod PhasePlaces
 pub mod BodyEnds
 pub mod RefusedCalls
+pub mod RightBits

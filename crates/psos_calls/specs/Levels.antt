@@ -8,7 +8,7 @@ pub mod Level12
 pub mod Level13
 pub mod Refusals
 pub mod Lists
-use Rattle.std.specs.Prelude.{ℕ, ◌+◌, ◌-◌, ◌^◌, ◌<◌}
+use Rattle.std.specs.Prelude.{◌≡◌, ℕ, ◌+◌, ◌-◌, ◌^◌, ◌<◌, Bool, true, false, IsTrue}
 use Rattle.psos_caps.specs.Capability.{full}
 use Rattle.psos_calls.specs.declared.level.Level.{Level}
 use Rattle.psos_calls.specs.declared.level.Level.TheVariants.{L13, L12, L11, L10, L9, L8, L7, L0}
@@ -73,6 +73,21 @@ level_of (WordPut page off word) = L7
 level_of (PageGet page) = L7
 level_of (FourPut page off words) = L7
 level_of Fresh = L0
+
+-- the call adds a row to a table of its level, and so may want memory
+abbrev pub adds_row : LevelCall → Bool
+adds_row (CodeMake uid label link) = true
+adds_row (Enrol uid kind) = true
+adds_row (DirMake uid guard) = true
+adds_row (TypeMake uid) = true
+adds_row (ObjMake uid of rep) = true
+adds_row (SegMake uid slot len guard) = true
+adds_row (WinMake uid cap base len) = true
+adds_row _ = false
+
+-- the call is of this level, and adds a row
+abbrev pub AddsRowAt : Level → LevelCall → Type 0
+AddsRowAt level call = (level_of call ≡ level) × IsTrue (adds_row call)
 
 -- level 0: a new capability on the next identifier, which then rises by one
 abbrev pub act0 : ℕ → LevelCall → ℕ × LevelAnswer

@@ -59,7 +59,7 @@ pub use private::Private;
 pub use refusal::Refusal;
 pub use reply::Reply;
 pub use request::Request;
-pub use right::Right;
+pub use right::{Right, has};
 pub use script::Script;
 pub use seg_row::SegRow;
 pub use step::Step;

@@ -1,6 +1,8 @@
 // Rights by their names.
 ghost use Rattle.std.specs.Prelude.{◌≡◌, ◌<◌};
-ghost use Rattle.psos_calls.specs.Language.Rights.{bit_of};
+ghost use Rattle.psos_calls.specs.Language.Rights.{bit_of, has};
+
+use psos_caps::Cap;
 
 /// The rights that requests need. Which bit stands for one goes by the kind of the object, so some share a bit.
 #[derive(Clone, Copy)]
@@ -48,4 +50,11 @@ impl Right {
             Right::Delete => 8,
         }
     }
+}
+
+/// Whether a capability has a right (docs/system.md, "Rights").
+pub fn has(cap: Cap, right: Right) -> bool
+    ensures { result ≡ has cap right }
+{
+    cap.has(right.bit())
 }

@@ -1,12 +1,13 @@
 // Procedure records.
-ghost use Rattle.std.specs.Prelude.{◌≡◌, IfOk, IfErr, OnOk, OnErr, IsTrue, alloc_error};
+ghost use Rattle.std.specs.Prelude.{◌≡◌, IfOk, IfErr, OnOk, OnErr, alloc_error};
 ghost use Rattle.std.specs.FinMap.{empty};
+ghost use Rattle.psos_calls.specs.declared.level.Level.TheVariants.{L13};
+ghost use Rattle.psos_calls.specs.Levels.{AddsRowAt};
 ghost use Rattle.psos_calls.specs.Levels.Level13.{admitted, entered, act13, Can13};
-ghost use Rattle.psos_codes.specs.Rows.{adds_row};
 
-use psos_calls::{CodeRow, Kind, LevelAnswer, LevelCall, LevelFault, Refusal, Right};
+use psos_calls::{CodeRow, Kind, LevelAnswer, LevelCall, LevelFault, Refusal, Right, has};
 use psos_caps::{Cap, Rights};
-use psos_guards::{admits, has_bit};
+use psos_guards::admits;
 use psos_table::Table;
 use psos_words::Word;
 use std::alloc::{AllocError, Global};
@@ -61,7 +62,7 @@ impl Codes {
         let Some(record) = self.records.get(cap.uid().0) else {
             return LevelAnswer::No(Refusal::Absent(Kind::Code));
         };
-        if !has_bit(cap.rights(), Right::Enter.bit()) {
+        if !has(cap, Right::Enter) {
             return LevelAnswer::No(Refusal::Lacks(Right::Enter));
         }
         LevelAnswer::Entered {
@@ -80,7 +81,7 @@ impl Codes {
         ensures answer { IfOk result (λ a. a ≡ (act13 self.old call.now).1) }
         ensures unchanged { OnErr result (self.new ≡ self.old) }
         ensures memory { IfErr result (λ fault. fault ≡ LevelFault.Memory alloc_error) }
-        ensures adding { OnErr result (IsTrue (adds_row call.now)) }
+        ensures adding { OnErr result (AddsRowAt L13 call.now) }
     {
         match *call {
             LevelCall::Admit { word } => Ok(admit(word)),

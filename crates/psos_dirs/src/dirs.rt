@@ -1,12 +1,12 @@
 // Directories.
-ghost use Rattle.std.specs.Prelude.{◌≡◌, IfOk, IfErr, OnOk, OnErr, IsTrue, alloc_error};
+ghost use Rattle.std.specs.Prelude.{◌≡◌, IfOk, IfErr, OnOk, OnErr, alloc_error};
 ghost use Rattle.std.specs.FinMap.{empty};
+ghost use Rattle.psos_calls.specs.declared.level.Level.TheVariants.{L10};
+ghost use Rattle.psos_calls.specs.Levels.{AddsRowAt};
 ghost use Rattle.psos_calls.specs.Levels.Level10.{dir_at, act10, Can10};
-ghost use Rattle.psos_dirs.specs.Rows.{adds_row};
 
-use psos_calls::{Kind, LevelAnswer, LevelCall, LevelFault, Refusal, Right};
+use psos_calls::{Kind, LevelAnswer, LevelCall, LevelFault, Refusal, Right, has};
 use psos_caps::{Cap, Rights};
-use psos_guards::has_bit;
 use psos_table::Table;
 use std::alloc::{AllocError, Global};
 use std::marker::Model;
@@ -49,7 +49,7 @@ impl Dirs {
         let Some(guard) = self.guards.get(cap.uid().0) else {
             return LevelAnswer::No(Refusal::Absent(Kind::Directory));
         };
-        if !has_bit(cap.rights(), right.bit()) {
+        if !has(cap, right) {
             return LevelAnswer::No(Refusal::Lacks(right));
         }
         LevelAnswer::Guard(*guard)
@@ -64,7 +64,7 @@ impl Dirs {
         ensures answer { IfOk result (λ a. a ≡ (act10 self.old call.now).1) }
         ensures unchanged { OnErr result (self.new ≡ self.old) }
         ensures memory { IfErr result (λ fault. fault ≡ LevelFault.Memory alloc_error) }
-        ensures adding { OnErr result (IsTrue (adds_row call.now)) }
+        ensures adding { OnErr result (AddsRowAt L10 call.now) }
     {
         match *call {
             LevelCall::DirAt { cap, right } => Ok(self.at(cap, right)),

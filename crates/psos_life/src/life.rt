@@ -1,8 +1,9 @@
 // User objects.
-ghost use Rattle.std.specs.Prelude.{◌≡◌, IfOk, IfErr, OnOk, OnErr, IsTrue, alloc_error};
+ghost use Rattle.std.specs.Prelude.{◌≡◌, IfOk, IfErr, OnOk, OnErr, alloc_error};
 ghost use Rattle.std.specs.FinMap.{empty};
+ghost use Rattle.psos_calls.specs.declared.level.Level.TheVariants.{L11};
+ghost use Rattle.psos_calls.specs.Levels.{AddsRowAt};
 ghost use Rattle.psos_calls.specs.Levels.Level11.{room, act11, Can11};
-ghost use Rattle.psos_life.specs.Rows.{adds_row};
 
 use psos_calls::{Kind, LevelAnswer, LevelCall, LevelFault, Refusal, Tab, limits};
 use psos_table::Table;
@@ -61,7 +62,7 @@ impl Life {
         ensures answer { IfOk result (λ a. a ≡ (act11 self.old call.now).1) }
         ensures unchanged { OnErr result (self.new ≡ self.old) }
         ensures memory { IfErr result (λ fault. fault ≡ LevelFault.Memory alloc_error) }
-        ensures adding { OnErr result (IsTrue (adds_row call.now)) }
+        ensures adding { OnErr result (AddsRowAt L11 call.now) }
     {
         match *call {
             LevelCall::Room => Ok(self.room()),

@@ -4,9 +4,9 @@ ghost use Rattle.psos_calls.specs.Locks.{part_of};
 ghost use Rattle.psos_procs.specs.Mailbox.{process_of, box_posted, box_drawn, act_box};
 
 use arrayvec::ArrayVec;
-use psos_calls::{Kind, LevelAnswer, LevelCall, Refusal, Right, Tab, limits, part_of};
+use psos_calls::{Kind, LevelAnswer, LevelCall, Refusal, Right, Tab, has, limits, part_of};
 use psos_caps::{Cap, Rights, Uid};
-use psos_guards::{admits, has_bit};
+use psos_guards::admits;
 use psos_words::Word;
 use std::marker::Model;
 
@@ -86,7 +86,7 @@ impl Mailbox {
         if !self.is_of(to.uid().0) {
             return LevelAnswer::No(Refusal::Absent(Kind::Process));
         }
-        if !has_bit(to.rights(), Right::Send.bit()) {
+        if !has(to, Right::Send) {
             return LevelAnswer::No(Refusal::Lacks(Right::Send));
         }
         if let Err(bit) = admits(Rights::of(1), word) {

@@ -1,11 +1,9 @@
--- What holds of every segment and window, and which calls may take memory. States docs/levels.md, "Calls".
-use Rattle.std.specs.Prelude.{◌≡◌, ℕ, ◌+◌, ◌<◌, ◌≤◌, Bool, true, false, Some}
+-- What holds of every segment and window. States docs/levels.md, "Calls".
+use Rattle.std.specs.Prelude.{◌≡◌, ℕ, ◌+◌, ◌<◌, ◌≤◌, Some}
 use Rattle.psos_table.specs.Table.{Table, at}
 use Rattle.psos_calls.specs.declared.seg_row.SegRow.{SegRow}
 use Rattle.psos_calls.specs.declared.win_row.WinRow.{WinRow}
-use Rattle.psos_calls.specs.declared.level_call.LevelCall.{LevelCall}
-use Rattle.psos_calls.specs.declared.level_call.LevelCall.TheVariants.{SegMake, WinMake}
-use Rattle.psos_calls.specs.Levels.Level8 as level8
+use Rattle.psos_calls.specs.Language.Views as views
 use Rattle.psos_segs.specs.declared.view.View.{View}
 
 -- segments have slots and at most 512 words, and windows lie within as many
@@ -14,11 +12,5 @@ pub record AreWithin (segments : Table SegRow) (windows : Table WinRow) : Type 0
   pub parts : (u : ℕ) (w : WinRow) → at windows u ≡ Some w → w.base + w.len ≤ 512
 
 -- a view of code as one of the definitions
-abbrev pub as_view : View → level8.View
+abbrev pub as_view : View → views.View
 as_view v = record { seg = v.seg.0; base = v.base; len = v.len; guard = v.row.guard }
-
--- the call adds a row to a table
-abbrev pub adds_row : LevelCall → Bool
-adds_row (SegMake uid slot len guard) = true
-adds_row (WinMake uid cap base len) = true
-adds_row _ = false

@@ -3,14 +3,16 @@ ghost use Rattle.std.specs.Prelude.{◌≡◌, ◌+◌, ◌<◌, ◌≤◌, ◌�
 ghost use Rattle.std.specs.Option.{option_map};
 ghost use Rattle.std.specs.FinMap.{empty};
 ghost use Rattle.psos_table.specs.Table.{at, put, without, kept};
+ghost use Rattle.psos_calls.specs.declared.level.Level.TheVariants.{L8};
+ghost use Rattle.psos_calls.specs.Levels.{AddsRowAt};
 ghost use Rattle.psos_calls.specs.Levels.Level8.{SegState, view, slot_of, locate, win_room, win_made, length_of, act8, Can8, IsNew};
 ghost use Rattle.psos_calls.specs.Language.Views.{is_not_over};
-ghost use Rattle.psos_segs.specs.Within.{as_view, adds_row};
+ghost use Rattle.psos_segs.specs.Within.{as_view};
 
 use crate::over::Over;
-use crate::view::{View, barred_by, fits_in, has};
+use crate::view::{View, barred_by, fits_in};
 use psos_calls::{
-    Kind, LevelAnswer, LevelCall, LevelFault, Refusal, Right, SegRow, Tab, WinRow, limits,
+    Kind, LevelAnswer, LevelCall, LevelFault, Refusal, Right, SegRow, Tab, WinRow, has, limits,
 };
 use psos_caps::{Cap, Uid};
 use psos_counts::Counted;
@@ -78,7 +80,7 @@ impl Segs {
         ensures ok { IfOk result (λ answer. (self.new, answer) ≡ act8 self.old call.now) }
         ensures err { OnErr result (self.new ≡ self.old) }
         ensures memory { IfErr result (λ fault. fault ≡ LevelFault.Memory alloc_error) }
-        ensures cause { OnErr result (IsTrue (adds_row call.now)) }
+        ensures cause { OnErr result (AddsRowAt L8 call.now) }
     {
         match *call {
             LevelCall::Locate {

@@ -1,13 +1,12 @@
-// What an identifier leads to, and what a capability allows there.
+// What an identifier leads to, and what goes there.
 ghost use Rattle.std.specs.Prelude.{◌≡◌};
-ghost use Rattle.psos_calls.specs.Language.Rights.{has};
 ghost use Rattle.psos_calls.specs.Levels.Level8.{barred_by};
 ghost use Rattle.psos_calls.specs.Language.Views.{fits_in};
 ghost use Rattle.psos_segs.specs.Within.{as_view};
 
-use psos_calls::{Right, SegRow};
-use psos_caps::{Cap, Rights, Uid};
-use psos_guards::{admits, has_bit};
+use psos_calls::SegRow;
+use psos_caps::{Rights, Uid};
+use psos_guards::admits;
 use psos_words::Word;
 
 /// The words that a live segment or window leads to: the segment with its row, where they begin in it, and how many.
@@ -25,13 +24,6 @@ pub(crate) fn fits_in(view: View, base: u64, len: u64) -> bool
 {
     let whole = u64::from(view.len);
     len > 0 && len <= whole && base <= whole - len
-}
-
-/// Whether a capability has a right.
-pub(crate) fn has(cap: Cap, right: Right) -> bool
-    ensures { result ≡ has cap right }
-{
-    has_bit(cap.rights(), right.bit())
 }
 
 /// The bit of a guard for which the word, where there is one, is not admitted.

@@ -1,15 +1,15 @@
 // Extended types.
-ghost use Rattle.std.specs.Prelude.{◌≡◌, IfOk, IfErr, OnOk, OnErr, IsTrue, alloc_error};
+ghost use Rattle.std.specs.Prelude.{◌≡◌, IfOk, IfErr, OnOk, OnErr, alloc_error};
 ghost use Rattle.std.specs.FinMap.{empty};
 ghost use Rattle.psos_table.specs.Table.{without};
+ghost use Rattle.psos_calls.specs.declared.level.Level.TheVariants.{L9};
+ghost use Rattle.psos_calls.specs.Levels.{AddsRowAt};
 ghost use Rattle.psos_calls.specs.Levels.Level9.{rep_of, type_at, impl_of, has_objects, type_gone, act9, Can9};
-ghost use Rattle.psos_types.specs.Rows.{adds_row};
 
 use crate::by_type::ByType;
-use psos_calls::{Kind, LevelAnswer, LevelCall, LevelFault, ObjRow, Refusal, Right};
+use psos_calls::{Kind, LevelAnswer, LevelCall, LevelFault, ObjRow, Refusal, Right, has};
 use psos_caps::{Cap, Uid};
 use psos_counts::Counted;
-use psos_guards::has_bit;
 use psos_table::Table;
 use psos_words::Word;
 use std::alloc::{AllocError, Global};
@@ -65,7 +65,7 @@ impl Types {
         let Some(_live) = self.types.get(cap.uid().0) else {
             return LevelAnswer::No(Refusal::Absent(Kind::Typ));
         };
-        if !has_bit(cap.rights(), Right::Make.bit()) {
+        if !has(cap, Right::Make) {
             return LevelAnswer::No(Refusal::Lacks(Right::Make));
         }
         LevelAnswer::Done
@@ -79,7 +79,7 @@ impl Types {
         let Some(_live) = self.types.get(of.uid().0) else {
             return LevelAnswer::No(Refusal::Absent(Kind::Typ));
         };
-        if !has_bit(of.rights(), Right::Impl.bit()) {
+        if !has(of, Right::Impl) {
             return LevelAnswer::No(Refusal::Lacks(Right::Impl));
         }
         let Some(object) = self.objects.get(on.uid().0) else {
@@ -134,7 +134,7 @@ impl Types {
         ensures answer { IfOk result (λ a. a ≡ (act9 self.old call.now).1) }
         ensures unchanged { OnErr result (self.new ≡ self.old) }
         ensures memory { IfErr result (λ fault. fault ≡ LevelFault.Memory alloc_error) }
-        ensures adding { OnErr result (IsTrue (adds_row call.now)) }
+        ensures adding { OnErr result (AddsRowAt L9 call.now) }
     {
         match *call {
             LevelCall::RepOf { uid } => Ok(LevelAnswer::Rep(self.rep(uid.0))),
