@@ -9,7 +9,7 @@ ghost use Rattle.psos_words.specs.Directory.{entry_words};
 ghost use Rattle.psos_calls.specs.Language.Script.{IsWellFormed};
 ghost use Rattle.psos_calls.specs.Levels.Level8.{IsNew};
 ghost use Rattle.psos_calls.specs.declared.kind.Kind.TheVariants as kinds;
-ghost use Rattle.psos_model.specs.Flat.Boot.{boot_life as life_at_boot, boot_users, boot_user as user_at_boot, boot_regs as regs_at_boot, root, home_of, scratch_of, scratch_name, guard_1};
+ghost use Rattle.psos_model.specs.Flat.Boot.{boot_life as life_at_boot, boot_users, scratch_of, scratch_name, guard_1};
 ghost use Rattle.psos_model.specs.Replay.BootLevels.{home_slot, home_words, boot_reps as reps_at_boot, boot_scratch as scratch_at_boot, boot_objects, boot_guards};
 ghost use Rattle.psos_model.specs.Replay.{boot_system};
 ghost use Rattle.psos_model.specs.Flat.Within.{IsShort};
@@ -18,17 +18,18 @@ ghost use Rattle.psos_core.specs.Booting.{first_taken, with_homes, AreBlank, boo
 
 use crate::Levels;
 use arrayvec::ArrayVec;
-use psos_calls::{Kind, LevelCall, Path, Private, Request, Script, UserText};
+use psos_calls::{Kind, LevelCall, Private, Script, UserText};
 use psos_caps::{Cap, Issuer, Rights, Uid};
 use psos_codes::Codes;
 use psos_dirs::Dirs;
 use psos_io::Store;
 use psos_life::Life;
+use psos_model::{boot_user, home_of, home_rep_of, scratch_of};
 use psos_pages::Pages;
 use psos_procs::Procs;
 use psos_segs::Segs;
 use psos_types::Types;
-use psos_words::{Registers, Word};
+use psos_words::Word;
 use std::alloc::{AllocError, Global};
 
 impl<B: Store> Levels<B> {
@@ -95,7 +96,7 @@ fn scratch_entry(i: u8) -> [Word; 4]
         // The eight bytes of the name `scratch`, the first the highest.
         Word::Data(0x7363_7261_7463_6800),
         Word::Data(0),
-        Word::Cap(boot_cap(6 + 4 * u64::from(i))),
+        Word::Cap(boot_cap(scratch_of(u64::from(i)))),
     ]
 }
 
@@ -194,7 +195,7 @@ fn boot_reps(alloc: Global, i: u8, texts: &[UserText]) -> Result<Segs, AllocErro
         return Ok(segs);
     };
     let mut segs = boot_reps(alloc, i + 1, rest)?;
-    let uid = 5 + 4 * u64::from(i);
+    let uid = home_rep_of(u64::from(i));
     make_segment(&mut segs, alloc, uid, 1 + 2 * u16::from(i), 512)?;
     Ok(segs)
 }
@@ -209,7 +210,7 @@ fn boot_segs(alloc: Global, all: &[UserText], i: u8, texts: &[UserText]) -> Resu
         return boot_reps(alloc, 0, all);
     };
     let mut segs = boot_segs(alloc, all, i + 1, rest)?;
-    let uid = 6 + 4 * u64::from(i);
+    let uid = scratch_of(u64::from(i));
     make_segment(&mut segs, alloc, uid, 2 + 2 * u16::from(i), 64)?;
     Ok(segs)
 }
@@ -244,7 +245,7 @@ fn boot_types(alloc: Global, i: u8, texts: &[UserText]) -> Result<Types, AllocEr
         return Ok(types);
     };
     let mut types = boot_types(alloc, i + 1, rest)?;
-    let uid = 4 + 4 * u64::from(i);
+    let uid = home_of(u64::from(i));
     make_object(&mut types, alloc, uid, uid + 1)?;
     Ok(types)
 }
@@ -275,7 +276,7 @@ fn boot_dirs(alloc: Global, i: u8, texts: &[UserText]) -> Result<Dirs, AllocErro
         return Ok(dirs);
     };
     let mut dirs = boot_dirs(alloc, i + 1, rest)?;
-    make_directory(&mut dirs, alloc, 4 + 4 * u64::from(i))?;
+    make_directory(&mut dirs, alloc, home_of(u64::from(i)))?;
     Ok(dirs)
 }
 
@@ -288,7 +289,7 @@ fn boot_life(alloc: Global, i: u8, texts: &[UserText]) -> Result<Life, AllocErro
         return Life::new(alloc);
     };
     let mut life = boot_life(alloc, i + 1, rest)?;
-    enrol(&mut life, alloc, 6 + 4 * u64::from(i))?;
+    enrol(&mut life, alloc, scratch_of(u64::from(i)))?;
     Ok(life)
 }
 
@@ -316,61 +317,6 @@ fn boot_cap(uid: u64) -> Cap
     ensures { result ≡ full uid }
 {
     Issuer::new(Uid(uid)).fresh()
-}
-
-// The root as users have it.
-fn boot_root() -> Cap
-    ensures { result ≡ root }
-{
-    boot_cap(1).restrict(Rights::of(0x00df))
-}
-
-// The registers of user i: the root, the own process, the home and the scratch segment, and data 0.
-fn boot_regs(i: u8) -> Registers
-    ensures { result ≡ regs_at_boot i }
-{
-    let i = u64::from(i);
-    let mut regs = Registers::zero();
-    regs.set(0, Word::Cap(boot_root()));
-    regs.set(1, Word::Cap(boot_cap(3 + 4 * i)));
-    regs.set(2, Word::Cap(boot_cap(4 + 4 * i)));
-    regs.set(3, Word::Cap(boot_cap(6 + 4 * i)));
-    regs
-}
-
-// The name space of user i: its home and then the root.
-fn boot_path(i: u8) -> Path
-    ensures { result ≡ full (home_of i) ∷ root ∷ [] }
-{
-    let mut path = Path::new();
-    path.push(boot_cap(4 + 4 * u64::from(i)));
-    path.push(boot_root());
-    path
-}
-
-// How many requests there are in phases.
-fn count(phases: &[Vec<Request>]) -> u16
-    requires { length (flat_map (λ p. p) (map (λ p. p.items) phases.now)) ≤ 241 }
-    ensures { result ≡ length (flat_map (λ p. p) (map (λ p. p.items) phases.now)) }
-{
-    match phases.split_first() {
-        Some((phase, later)) => phase.len() as u16 + count(later),
-        None => 0,
-    }
-}
-
-// User i's own part.
-fn boot_user(i: u8, text: &UserText) -> Private
-    requires { IsShort text.now }
-    ensures { result ≡ user_at_boot i text.now }
-{
-    Private::new(
-        i,
-        Uid(3 + 4 * u64::from(i)),
-        count(text.phases()),
-        boot_regs(i),
-        boot_path(i),
-    )
 }
 
 // Puts the parts of users, counted from i, at the end of others.

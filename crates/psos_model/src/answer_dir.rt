@@ -9,10 +9,10 @@ ghost use Rattle.psos_model.specs.Answer.Outcomes.{gives, by};
 ghost use Rattle.psos_model.specs.Answer.Directories.{answer_lookup, answer_bind, answer_unbind, answer_list, answer_path, answer_find, find_in};
 ghost use Rattle.psos_model.specs.Flat.Within.{found_in};
 
-use crate::guards::{barred, has};
+use crate::guards::barred;
 use crate::outcome::{by, does, gives, own, refuse, reg_place};
 use crate::{Change, ChangeList, Flat, Outcome, Place};
-use psos_calls::{Effect, Kind, Path, Private, Refusal, Reply, Right, Tab};
+use psos_calls::{Effect, Kind, Path, Private, Refusal, Reply, Right, Tab, has};
 use psos_caps::Cap;
 use psos_limits::{MOST_ENTRIES, MOST_PATH};
 use psos_text::Name;

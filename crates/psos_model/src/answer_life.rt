@@ -9,11 +9,11 @@ ghost use Rattle.psos_model.specs.Answer.Objects.{makes, drops, answer_impl, ans
 ghost use Rattle.psos_model.specs.Flat.Safe.{is_making, is_sure};
 ghost use Rattle.psos_model.specs.Flat.Within.{unless};
 
-use crate::guards::{barred, has};
+use crate::guards::barred;
 use crate::issue::full;
 use crate::outcome::{by, does, gives, own, refuse, reg_place};
 use crate::{Change, ChangeList, Flat, Object, Outcome, Place};
-use psos_calls::{CodeRow, Kind, Private, Refusal, Right, Tab};
+use psos_calls::{CodeRow, Kind, Private, Refusal, Right, Tab, has};
 use psos_caps::{Cap, Rights};
 use psos_limits::{MOST_ENTRIES, MOST_OBJECTS, MOST_WORDS};
 use psos_text::Name;

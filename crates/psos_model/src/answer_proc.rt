@@ -3,10 +3,10 @@ ghost use Rattle.std.specs.Prelude.{◌≡◌, ◌<◌};
 ghost use Rattle.psos_calls.specs.Language.User.{CanMake};
 ghost use Rattle.psos_model.specs.Answer.Processes.{answer_send, answer_recv, answer_call};
 
-use crate::guards::{barred, has};
+use crate::guards::barred;
 use crate::outcome::{by, does, gives, own, refuse, reg_place};
 use crate::{Change, ChangeList, Flat, Outcome, Place};
-use psos_calls::{Effect, Kind, Private, Refusal, Reply, Right, Tab};
+use psos_calls::{Effect, Kind, Private, Refusal, Reply, Right, Tab, has};
 use psos_caps::Rights;
 use psos_limits::{CALL_CHARGE, MOST_CHARGE, MOST_FRAMES, MOST_MESSAGES};
 use psos_words::Word;

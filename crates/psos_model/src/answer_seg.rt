@@ -6,11 +6,11 @@ ghost use Rattle.psos_model.specs.Answer.Segments.{answer_mint, answer_restrict,
 ghost use Rattle.psos_calls.specs.Language.Views.{fits_in, part_of};
 ghost use Rattle.psos_model.specs.Flat.Within.{IsWithin, as_view};
 
-use crate::guards::{barred, has};
+use crate::guards::barred;
 use crate::issue::{capability, full};
 use crate::outcome::{by, does, gives, own, refuse, reg_place};
 use crate::{Change, ChangeList, Flat, FlatView, Outcome, Place};
-use psos_calls::{Kind, Private, Refusal, Right, Tab, WinRow};
+use psos_calls::{Kind, Private, Refusal, Right, Tab, WinRow, has};
 use psos_caps::{Rights, Uid};
 use psos_limits::MOST_WINDOWS;
 use psos_words::Word;

@@ -6,6 +6,7 @@ ghost use Rattle.psos_calls.specs.Language.Script.{IsWellFormed, requests_of};
 ghost use Rattle.psos_model.specs.Flat.Boot.{boot, boot_next, boot_segments, boot_dirs, boot_life, boot_boxes, boot_users, boot_user, boot_regs, scratch_name, home_names, root};
 ghost use Rattle.psos_model.specs.Flat.Within.{IsShort};
 
+use crate::boot_uids::{home_of, home_rep_of, process_of, scratch_of};
 use crate::issue::{capability, full};
 use crate::{Directory, Flat, Mailbox, Named, NamesTable, Objects, Segment, Users};
 use psos_calls::{Kind, Path, Private, Request, Script, UserText};
@@ -53,7 +54,7 @@ fn boot_segments(alloc: Global, i: u64, texts: &[UserText]) -> Result<Table<Segm
         return Ok(Table::new(alloc));
     };
     let mut segments = boot_segments(alloc, i + 1, rest)?;
-    segments.put(6 + 4 * i, Segment::new(alloc, 64, Rights::of(1))?)?;
+    segments.put(scratch_of(i), Segment::new(alloc, 64, Rights::of(1))?)?;
     Ok(segments)
 }
 
@@ -68,10 +69,10 @@ fn boot_dirs(alloc: Global, i: u64, texts: &[UserText]) -> Result<Table<Director
     let mut dirs = boot_dirs(alloc, i + 1, rest)?;
     let names = home_names(alloc, i)?;
     dirs.put(
-        4 + 4 * i,
+        home_of(i),
         Directory {
             guard: Rights::of(1),
-            rep: 5 + 4 * i,
+            rep: home_rep_of(i),
             names,
         },
     )?;
@@ -99,7 +100,7 @@ fn home_names(alloc: Global, i: u64) -> Result<NamesTable, AllocError>
 {
     let mut names = NamesTable::new(alloc);
     let entry = Named {
-        cap: full(6 + 4 * i),
+        cap: full(scratch_of(i)),
         kept: true,
     };
     names.put(scratch_name(), entry)?;
@@ -115,7 +116,7 @@ fn boot_life(alloc: Global, i: u64, texts: &[UserText]) -> Result<Table<Kind>, A
         return Ok(Table::new(alloc));
     };
     let mut life = boot_life(alloc, i + 1, rest)?;
-    life.put(6 + 4 * i, Kind::Segment)?;
+    life.put(scratch_of(i), Kind::Segment)?;
     Ok(life)
 }
 
@@ -128,7 +129,7 @@ fn boot_boxes(alloc: Global, i: u64, texts: &[UserText]) -> Result<Table<Mailbox
         return Ok(Table::new(alloc));
     };
     let mut boxes = boot_boxes(alloc, i + 1, rest)?;
-    boxes.put(3 + 4 * i, Mailbox::new(alloc))?;
+    boxes.put(process_of(i), Mailbox::new(alloc))?;
     Ok(boxes)
 }
 
@@ -145,18 +146,20 @@ fn push_users(users: &mut Users, i: u8, texts: &[UserText])
     }
 }
 
-fn boot_user(i: u8, text: &UserText) -> Private
+/// A user's own part at boot, for user i, who asks at most so much (docs/system.md, "Boot"). It is the same in the flat
+/// state and over the levels.
+pub fn boot_user(i: u8, text: &UserText) -> Private
     requires user { i < 8 }
     requires few { IsShort text.now }
     ensures { result ≡ boot_user i text.now }
 {
     let number = u64::from(i);
     let mut path = Path::new();
-    path.push(full(4 + 4 * number));
+    path.push(full(home_of(number)));
     path.push(root());
     Private::new(
         i,
-        Uid(3 + 4 * number),
+        Uid(process_of(number)),
         count(text.phases()),
         boot_regs(number),
         path,
@@ -170,9 +173,9 @@ fn boot_regs(i: u64) -> Registers
 {
     let mut regs = Registers::zero();
     regs.set(0, Word::Cap(root()));
-    regs.set(1, Word::Cap(full(3 + 4 * i)));
-    regs.set(2, Word::Cap(full(4 + 4 * i)));
-    regs.set(3, Word::Cap(full(6 + 4 * i)));
+    regs.set(1, Word::Cap(full(process_of(i))));
+    regs.set(2, Word::Cap(full(home_of(i))));
+    regs.set(3, Word::Cap(full(scratch_of(i))));
     regs
 }
 

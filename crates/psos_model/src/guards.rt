@@ -1,10 +1,8 @@
-// Rights that are asked for, and guards of stores.
+// Guards of stores.
 ghost use Rattle.std.specs.Prelude.{◌≡◌, ◌<◌};
 ghost use Rattle.psos_words.specs.Guard.{has_bit, missing, barred};
-ghost use Rattle.psos_calls.specs.Language.Rights.{has};
 
-use psos_calls::Right;
-use psos_caps::{Cap, Rights};
+use psos_caps::Rights;
 use psos_words::Word;
 
 // Whether these bits have this one.
@@ -13,13 +11,6 @@ fn has_bit(bits: u16, bit: u8) -> bool
     ensures { result ≡ has_bit bits bit }
 {
     (bits >> bit) % 2 == 1
-}
-
-/// Whether a capability has a right.
-pub(crate) fn has(cap: Cap, right: Right) -> bool
-    ensures { result ≡ has cap right }
-{
-    has_bit(cap.rights().bits(), right.bit())
 }
 
 // The least bit of a guard that these rights lack.

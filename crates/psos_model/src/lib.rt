@@ -9,6 +9,7 @@ mod answer_proc;
 mod answer_seg;
 mod apply;
 mod boot;
+mod boot_uids;
 mod change;
 mod change_list;
 mod directory;
@@ -34,6 +35,8 @@ mod step;
 mod users;
 mod view;
 
+pub use boot::boot_user;
+pub use boot_uids::{home_of, home_rep_of, process_of, scratch_of};
 pub use change::Change;
 pub use change_list::ChangeList;
 pub use directory::Directory;
