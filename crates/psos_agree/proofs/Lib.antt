@@ -22,6 +22,9 @@ pub mod CreationsAgree
 pub mod DeletionsAgree
 pub mod ProcessesAgree
 pub mod RequestsAgree
+pub mod PlanInduction
+pub mod LocksTaken
+pub mod PlanCalls
 pub mod PlanLengths
 pub mod EntryLists
 pub mod BootSlots

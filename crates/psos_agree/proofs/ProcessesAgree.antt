@@ -18,7 +18,6 @@ use Rattle.psos_calls.specs.declared.level_answer.LevelAnswer.TheVariants.{Done,
 use Rattle.psos_calls.specs.declared.obj_row.ObjRow.{ObjRow}
 use Rattle.psos_calls.specs.declared.refusal.Refusal.TheVariants.{Absent, Lacks, Guarded, Exhausted, Empty, WrongType}
 use Rattle.psos_calls.specs.declared.reply.Reply.TheVariants as replies
-use Rattle.psos_calls.specs.declared.request.Request.{Request}
 use Rattle.psos_calls.specs.declared.request.Request.TheVariants.{Impl, Send, Recv, Call}
 use Rattle.psos_calls.specs.declared.right.Right.TheVariants as rights
 use Rattle.psos_calls.specs.declared.tab.Tab.TheVariants.{Mailbox}
