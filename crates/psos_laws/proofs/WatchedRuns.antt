@@ -15,6 +15,7 @@ use Rattle.psos_model.proofs.Orders.{run_append, legal_more}
 use Rattle.psos_laws.specs.History.{history}
 use Rattle.psos_laws.specs.Trails.{IsConfined}
 use Rattle.psos_laws.specs.Laws.{IsLawful}
+use Rattle.psos_laws.specs.Watched.{Watched, IsWatched, script_of, order_of, flat_of}
 use Rattle.psos_laws.proofs.BootSound.{boot_start}
 use Rattle.psos_laws.proofs.OrderLengths.{orders_end}
 use Rattle.psos_laws.proofs.PlacesLaws.{confined_stays_once}
@@ -23,7 +24,7 @@ use Rattle.psos_laws.proofs.SharedSound.{runs_kept}
 use Rattle.psos_laws.proofs.RoomToStep.{can_step}
 
 -- each request uses two identifiers at most
-next_most : (s : Script) (order : List ℕ) (f : Flat) → (run_from s f order).next ≤ f.next + 2 * length order
+pub next_most : (s : Script) (order : List ℕ) (f : Flat) → (run_from s f order).next ≤ f.next + 2 * length order
 next_most s [] f = omega arith
 next_most s (u ∷ us) f =
     let rest = next_most s us (answer s f u).0 in
@@ -61,6 +62,10 @@ laws_of s t order f h = subst P h.script (λ formed legal state. laws_by s order
   where
     P : Script → Type 0
     P x = IsWellFormed s → IsLegalFrom s (boot s) order → f ≡ run s order → AreLaws x order f
+
+-- of what a `Watched` keeps, and of a script that is the one that boot took
+pub watched_laws : (w : Watched) (t : Script) → IsWatched w → script_of w ≡ t → AreLaws t (order_of w) (flat_of w)
+watched_laws w t h script = laws_of (script_of w) t (order_of w) (flat_of w) (record { formed = h.formed; legal = h.legal; state = h.state; script = script })
 
 -- and of the script that boot took
 pub laws_back : (s t : Script) (order : List ℕ) (f : Flat) → s ≡ t → AreLaws t order f → AreLaws s order f

@@ -1,5 +1,5 @@
 use Rattle.std.proofs.Common.{[], ◌∷◌, ◌++◌, refl, sym, ap, ◌∙◌, arith}
-use Rattle.psos_laws.proofs.WatchedRuns.{laws_of, laws_same, laws_more, laws_few, laws_step, laws_kept, laws_confined, laws_back}
+use Rattle.psos_laws.proofs.WatchedRuns.{watched_laws, laws_same, laws_more, laws_few, laws_step, laws_kept, laws_confined, laws_back}
 use Rattle.psos_laws.specs.History.{history}
 use Rattle.psos_laws.proofs.OriginTables.{tells_same, tells_as, tells_step, small_boxes, one_of_eight}
 use Rattle.psos_laws.proofs.watched.Watched.step.Goals as goal
@@ -8,8 +8,7 @@ pub overflow_cast-stamp : goal.overflow_cast-stamp
 overflow_cast-stamp c =
     let w = c.args.self.now in
     let t = c.args.script.now in
-    let was = laws_of w.script.value t w.order.items w.flat
-    (record { formed = c.requires.watched.formed; legal = c.requires.watched.legal; state = c.requires.watched.state; script = c.requires.script }) in
+    let was = watched_laws w t c.requires.watched c.requires.script in
     let few = laws_few t w.order.items w.flat was in
     let count = c.len-stamp.ensures in
     omega (arith, few, count)
@@ -18,16 +17,14 @@ pub step-requires-clause-state : goal.step-requires-clause-state
 step-requires-clause-state c =
     let w = c.args.self.now in
     let t = c.args.script.now in
-    let was = laws_of w.script.value t w.order.items w.flat
-    (record { formed = c.requires.watched.formed; legal = c.requires.watched.legal; state = c.requires.watched.state; script = c.requires.script }) in
+    let was = watched_laws w t c.requires.watched c.requires.script in
     laws_step t w.order.items w.flat c.args.user c.requires.left was
 
 pub returns-in_err-try_reserve-clause-sound : goal.returns-in_err-try_reserve-clause-sound
 returns-in_err-try_reserve-clause-sound c =
     let w = c.args.self.now in
     let t = c.args.script.now in
-    let was = laws_of w.script.value t w.order.items w.flat
-    (record { formed = c.requires.watched.formed; legal = c.requires.watched.legal; state = c.requires.watched.state; script = c.requires.script }) in
+    let was = watched_laws w t c.requires.watched c.requires.script in
     let now = laws_same t w.order.items c.try_reserve.new.self.items w.flat w.flat c.in_err-try_reserve.ensures.items refl was in
     now.sound
 
@@ -35,8 +32,7 @@ pub returns-in_err-try_reserve-clause-guarded : goal.returns-in_err-try_reserve-
 returns-in_err-try_reserve-clause-guarded c =
     let w = c.args.self.now in
     let t = c.args.script.now in
-    let was = laws_of w.script.value t w.order.items w.flat
-    (record { formed = c.requires.watched.formed; legal = c.requires.watched.legal; state = c.requires.watched.state; script = c.requires.script }) in
+    let was = watched_laws w t c.requires.watched c.requires.script in
     let now = laws_same t w.order.items c.try_reserve.new.self.items w.flat w.flat c.in_err-try_reserve.ensures.items refl was in
     now.sound.guarded
 
@@ -44,8 +40,7 @@ pub returns-in_err-try_reserve-clause-kept : goal.returns-in_err-try_reserve-cla
 returns-in_err-try_reserve-clause-kept c =
     let w = c.args.self.now in
     let t = c.args.script.now in
-    let was = laws_of w.script.value t w.order.items w.flat
-    (record { formed = c.requires.watched.formed; legal = c.requires.watched.legal; state = c.requires.watched.state; script = c.requires.script }) in
+    let was = watched_laws w t c.requires.watched c.requires.script in
     let now = laws_same t w.order.items c.try_reserve.new.self.items w.flat w.flat c.in_err-try_reserve.ensures.items refl was in
     laws_kept t c.try_reserve.new.self.items w.flat now
 
@@ -53,8 +48,7 @@ pub returns-in_err-try_reserve-clause-lawful : goal.returns-in_err-try_reserve-c
 returns-in_err-try_reserve-clause-lawful c =
     let w = c.args.self.now in
     let t = c.args.script.now in
-    let was = laws_of w.script.value t w.order.items w.flat
-    (record { formed = c.requires.watched.formed; legal = c.requires.watched.legal; state = c.requires.watched.state; script = c.requires.script }) in
+    let was = watched_laws w t c.requires.watched c.requires.script in
     let now = laws_same t w.order.items c.try_reserve.new.self.items w.flat w.flat c.in_err-try_reserve.ensures.items refl was in
     now.lawful
 
@@ -62,32 +56,28 @@ pub coming-requires-clause-state : goal.coming-requires-clause-state
 coming-requires-clause-state c =
     let w = c.args.self.now in
     let t = c.args.script.now in
-    let was = laws_of w.script.value t w.order.items w.flat
-    (record { formed = c.requires.watched.formed; legal = c.requires.watched.legal; state = c.requires.watched.state; script = c.requires.script }) in
+    let was = watched_laws w t c.requires.watched c.requires.script in
     laws_step t w.order.items w.flat c.args.user c.requires.left was
 
 pub coming-requires-clause-few : goal.coming-requires-clause-few
 coming-requires-clause-few c =
     let w = c.args.self.now in
     let t = c.args.script.now in
-    let was = laws_of w.script.value t w.order.items w.flat
-    (record { formed = c.requires.watched.formed; legal = c.requires.watched.legal; state = c.requires.watched.state; script = c.requires.script }) in
+    let was = watched_laws w t c.requires.watched c.requires.script in
     small_boxes t w.flat was.sound
 
 pub keep-requires-clause-user : goal.keep-requires-clause-user
 keep-requires-clause-user c =
     let w = c.args.self.now in
     let t = c.args.script.now in
-    let was = laws_of w.script.value t w.order.items w.flat
-    (record { formed = c.requires.watched.formed; legal = c.requires.watched.legal; state = c.requires.watched.state; script = c.requires.script }) in
+    let was = watched_laws w t c.requires.watched c.requires.script in
     one_of_eight t w.flat c.args.user was.formed was.sound c.requires.left
 
 pub returns-in_err-coming-clause-sound : goal.returns-in_err-coming-clause-sound
 returns-in_err-coming-clause-sound c =
     let w = c.args.self.now in
     let t = c.args.script.now in
-    let was = laws_of w.script.value t w.order.items w.flat
-    (record { formed = c.requires.watched.formed; legal = c.requires.watched.legal; state = c.requires.watched.state; script = c.requires.script }) in
+    let was = watched_laws w t c.requires.watched c.requires.script in
     let now = laws_same t w.order.items c.try_reserve.new.self.items w.flat w.flat c.in_ok-try_reserve.ensures.items refl was in
     now.sound
 
@@ -95,8 +85,7 @@ pub returns-in_err-coming-clause-guarded : goal.returns-in_err-coming-clause-gua
 returns-in_err-coming-clause-guarded c =
     let w = c.args.self.now in
     let t = c.args.script.now in
-    let was = laws_of w.script.value t w.order.items w.flat
-    (record { formed = c.requires.watched.formed; legal = c.requires.watched.legal; state = c.requires.watched.state; script = c.requires.script }) in
+    let was = watched_laws w t c.requires.watched c.requires.script in
     let now = laws_same t w.order.items c.try_reserve.new.self.items w.flat w.flat c.in_ok-try_reserve.ensures.items refl was in
     now.sound.guarded
 
@@ -104,8 +93,7 @@ pub returns-in_err-coming-clause-kept : goal.returns-in_err-coming-clause-kept
 returns-in_err-coming-clause-kept c =
     let w = c.args.self.now in
     let t = c.args.script.now in
-    let was = laws_of w.script.value t w.order.items w.flat
-    (record { formed = c.requires.watched.formed; legal = c.requires.watched.legal; state = c.requires.watched.state; script = c.requires.script }) in
+    let was = watched_laws w t c.requires.watched c.requires.script in
     let now = laws_same t w.order.items c.try_reserve.new.self.items w.flat w.flat c.in_ok-try_reserve.ensures.items refl was in
     laws_kept t c.try_reserve.new.self.items w.flat now
 
@@ -113,8 +101,7 @@ pub returns-in_err-coming-clause-lawful : goal.returns-in_err-coming-clause-lawf
 returns-in_err-coming-clause-lawful c =
     let w = c.args.self.now in
     let t = c.args.script.now in
-    let was = laws_of w.script.value t w.order.items w.flat
-    (record { formed = c.requires.watched.formed; legal = c.requires.watched.legal; state = c.requires.watched.state; script = c.requires.script }) in
+    let was = watched_laws w t c.requires.watched c.requires.script in
     let now = laws_same t w.order.items c.try_reserve.new.self.items w.flat w.flat c.in_ok-try_reserve.ensures.items refl was in
     now.lawful
 
@@ -122,8 +109,7 @@ pub returns-in_err-answer-clause-sound : goal.returns-in_err-answer-clause-sound
 returns-in_err-answer-clause-sound c =
     let w = c.args.self.now in
     let t = c.args.script.now in
-    let was = laws_of w.script.value t w.order.items w.flat
-    (record { formed = c.requires.watched.formed; legal = c.requires.watched.legal; state = c.requires.watched.state; script = c.requires.script }) in
+    let was = watched_laws w t c.requires.watched c.requires.script in
     let now = laws_same t w.order.items c.try_reserve.new.self.items w.flat c.step.new.self c.in_ok-try_reserve.ensures.items c.in_err-answer.ensures.err was in
     now.sound
 
@@ -131,8 +117,7 @@ pub returns-in_err-answer-clause-guarded : goal.returns-in_err-answer-clause-gua
 returns-in_err-answer-clause-guarded c =
     let w = c.args.self.now in
     let t = c.args.script.now in
-    let was = laws_of w.script.value t w.order.items w.flat
-    (record { formed = c.requires.watched.formed; legal = c.requires.watched.legal; state = c.requires.watched.state; script = c.requires.script }) in
+    let was = watched_laws w t c.requires.watched c.requires.script in
     let now = laws_same t w.order.items c.try_reserve.new.self.items w.flat c.step.new.self c.in_ok-try_reserve.ensures.items c.in_err-answer.ensures.err was in
     now.sound.guarded
 
@@ -140,8 +125,7 @@ pub returns-in_err-answer-clause-kept : goal.returns-in_err-answer-clause-kept
 returns-in_err-answer-clause-kept c =
     let w = c.args.self.now in
     let t = c.args.script.now in
-    let was = laws_of w.script.value t w.order.items w.flat
-    (record { formed = c.requires.watched.formed; legal = c.requires.watched.legal; state = c.requires.watched.state; script = c.requires.script }) in
+    let was = watched_laws w t c.requires.watched c.requires.script in
     let now = laws_same t w.order.items c.try_reserve.new.self.items w.flat c.step.new.self c.in_ok-try_reserve.ensures.items c.in_err-answer.ensures.err was in
     laws_kept t c.try_reserve.new.self.items c.step.new.self now
 
@@ -149,8 +133,7 @@ pub returns-in_err-answer-clause-lawful : goal.returns-in_err-answer-clause-lawf
 returns-in_err-answer-clause-lawful c =
     let w = c.args.self.now in
     let t = c.args.script.now in
-    let was = laws_of w.script.value t w.order.items w.flat
-    (record { formed = c.requires.watched.formed; legal = c.requires.watched.legal; state = c.requires.watched.state; script = c.requires.script }) in
+    let was = watched_laws w t c.requires.watched c.requires.script in
     let now = laws_same t w.order.items c.try_reserve.new.self.items w.flat c.step.new.self c.in_ok-try_reserve.ensures.items c.in_err-answer.ensures.err was in
     now.lawful
 
@@ -158,8 +141,7 @@ pub returns-clause-sound : goal.returns-clause-sound
 returns-clause-sound c =
     let w = c.args.self.now in
     let t = c.args.script.now in
-    let was = laws_of w.script.value t w.order.items w.flat
-    (record { formed = c.requires.watched.formed; legal = c.requires.watched.legal; state = c.requires.watched.state; script = c.requires.script }) in
+    let was = watched_laws w t c.requires.watched c.requires.script in
     let now = laws_more t w.order.items c.push_reserved.new.self.items w.flat c.step.new.self c.args.user c.requires.left
     (c.push_reserved.ensures.items ∙ ap (λ us. us ++ c.args.user ∷ []) c.in_ok-try_reserve.ensures.items) c.in_ok-answer.ensures.state was in
     now.sound
@@ -168,8 +150,7 @@ pub returns-clause-guarded : goal.returns-clause-guarded
 returns-clause-guarded c =
     let w = c.args.self.now in
     let t = c.args.script.now in
-    let was = laws_of w.script.value t w.order.items w.flat
-    (record { formed = c.requires.watched.formed; legal = c.requires.watched.legal; state = c.requires.watched.state; script = c.requires.script }) in
+    let was = watched_laws w t c.requires.watched c.requires.script in
     let now = laws_more t w.order.items c.push_reserved.new.self.items w.flat c.step.new.self c.args.user c.requires.left
     (c.push_reserved.ensures.items ∙ ap (λ us. us ++ c.args.user ∷ []) c.in_ok-try_reserve.ensures.items) c.in_ok-answer.ensures.state was in
     now.sound.guarded
@@ -178,8 +159,7 @@ pub returns-clause-kept : goal.returns-clause-kept
 returns-clause-kept c =
     let w = c.args.self.now in
     let t = c.args.script.now in
-    let was = laws_of w.script.value t w.order.items w.flat
-    (record { formed = c.requires.watched.formed; legal = c.requires.watched.legal; state = c.requires.watched.state; script = c.requires.script }) in
+    let was = watched_laws w t c.requires.watched c.requires.script in
     let now = laws_more t w.order.items c.push_reserved.new.self.items w.flat c.step.new.self c.args.user c.requires.left
     (c.push_reserved.ensures.items ∙ ap (λ us. us ++ c.args.user ∷ []) c.in_ok-try_reserve.ensures.items) c.in_ok-answer.ensures.state was in
     laws_kept t c.push_reserved.new.self.items c.step.new.self now
@@ -188,8 +168,7 @@ pub returns-clause-lawful : goal.returns-clause-lawful
 returns-clause-lawful c =
     let w = c.args.self.now in
     let t = c.args.script.now in
-    let was = laws_of w.script.value t w.order.items w.flat
-    (record { formed = c.requires.watched.formed; legal = c.requires.watched.legal; state = c.requires.watched.state; script = c.requires.script }) in
+    let was = watched_laws w t c.requires.watched c.requires.script in
     let now = laws_more t w.order.items c.push_reserved.new.self.items w.flat c.step.new.self c.args.user c.requires.left
     (c.push_reserved.ensures.items ∙ ap (λ us. us ++ c.args.user ∷ []) c.in_ok-try_reserve.ensures.items) c.in_ok-answer.ensures.state was in
     now.lawful
@@ -198,8 +177,7 @@ pub returns-clause-watched : goal.returns-clause-watched
 returns-clause-watched c =
     let w = c.args.self.now in
     let t = c.args.script.now in
-    let was = laws_of w.script.value t w.order.items w.flat
-    (record { formed = c.requires.watched.formed; legal = c.requires.watched.legal; state = c.requires.watched.state; script = c.requires.script }) in
+    let was = watched_laws w t c.requires.watched c.requires.script in
     let now = laws_more t w.order.items c.push_reserved.new.self.items w.flat c.step.new.self c.args.user c.requires.left
     (c.push_reserved.ensures.items ∙ ap (λ us. us ++ c.args.user ∷ []) c.in_ok-try_reserve.ensures.items) c.in_ok-answer.ensures.state was in
     let back = laws_back w.script.value t c.push_reserved.new.self.items c.step.new.self c.requires.script now in
@@ -220,6 +198,5 @@ pub returns-clause-confined : goal.returns-clause-confined
 returns-clause-confined c =
     let w = c.args.self.now in
     let t = c.args.script.now in
-    let was = laws_of w.script.value t w.order.items w.flat
-    (record { formed = c.requires.watched.formed; legal = c.requires.watched.legal; state = c.requires.watched.state; script = c.requires.script }) in
+    let was = watched_laws w t c.requires.watched c.requires.script in
     laws_confined t w.order.items w.flat c.step.new.self c.args.user c.in_ok-answer.ensures.state was
