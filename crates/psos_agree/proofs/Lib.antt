@@ -1,4 +1,5 @@
 pub mod PlanWalk
+pub mod TablesStand
 pub mod Views
 pub mod SegmentWords
 pub mod FreshIdentifiers
