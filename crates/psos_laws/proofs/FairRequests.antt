@@ -38,7 +38,7 @@ use Rattle.psos_laws.specs.Landings.{lands, passed}
 use Rattle.psos_laws.specs.Reads.{Contains, IsCopy, IsFirstMessage, HasRight, MayRead, MayWindow}
 use Rattle.psos_laws.proofs.Landings.{same_cap}
 use Rattle.psos_laws.proofs.StepLaws.{Fair, Ground, Lawful, IsNew, NewRep}
-use Rattle.psos_laws.proofs.StepsShared.{cap_own}
+use Rattle.psos_laws.proofs.UnchangedPlaces.{cap_own}
 use Rattle.psos_laws.proofs.FairRules.{contains_and, view_leads, view_guard, words_cap, is_mine, held_reg, own_copy, reader, in_reg, in_store, new_reg, new_store, not_rep, refused, word_goes}
 
 module _ (f : Flat) (x : User) (is : slice_get f.users x.number ≡ Some x) (ground : Ground f) where

@@ -30,7 +30,7 @@ use Rattle.psos_laws.specs.Landings.{lands}
 use Rattle.psos_laws.specs.Reads.{Leads, HasRight, MayRead, Contains, IsCopy}
 use Rattle.psos_laws.proofs.Landings.{same_cap}
 use Rattle.psos_laws.proofs.StepLaws.{Fair, Lawful, IsNew, IsCopyFrom, OnlyImpl}
-use Rattle.psos_laws.proofs.StepsShared.{cap_own}
+use Rattle.psos_laws.proofs.UnchangedPlaces.{cap_own}
 
 -- ---- rights and guards
 

@@ -24,7 +24,7 @@ use Rattle.psos_laws.specs.SoundParts.{IsSoundShared}
 use Rattle.psos_laws.proofs.SharedRows.{segment_rows, type_rows, object_rows, directory_rows, code_rows}
 use Rattle.psos_laws.proofs.Homes.{name_in}
 use Rattle.psos_laws.proofs.RolesLife.{alike, alike_none, kind_of, stays, stays_put, boots_on, boot_below, user_below}
-use Rattle.psos_laws.proofs.SharedWhole.{Whole, Between, whole_raised, whole_register, shared_of}
+use Rattle.psos_laws.proofs.SharedParts.{Whole, Between, whole_raised, whole_register, shared_of}
 
 -- ---- between the making and the telling
 

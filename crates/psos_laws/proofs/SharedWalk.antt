@@ -42,7 +42,7 @@ use Rattle.psos_model.proofs.OutcomeRules.{Refuses, by_cap, by_data, by_there, b
 use Rattle.psos_laws.specs.SoundParts.{IsSoundShared}
 use Rattle.psos_laws.proofs.SharedRows.{Rows}
 use Rattle.psos_laws.proofs.Homes.{name_in}
-use Rattle.psos_laws.proofs.SharedWhole.{Whole, whole_of, shared_of, whole_raised, whole_word, whole_window, whole_post, whole_draw, whole_bind, whole_unbind}
+use Rattle.psos_laws.proofs.SharedParts.{Whole, whole_of, shared_of, whole_raised, whole_word, whole_window, whole_post, whole_draw, whole_bind, whole_unbind}
 use Rattle.psos_laws.proofs.SharedCreations.{with_at, with_at_here, with_at_apart, mkseg_sound, mktype_sound, mkcode_sound, mkobj_sound, mkdir_sound}
 use Rattle.psos_laws.proofs.SharedDeletions.{segment_gone_sound, type_gone_sound, code_gone_sound, object_gone_sound, directory_gone_sound}
 

@@ -16,11 +16,11 @@ use Rattle.psos_laws.specs.History.{history}
 use Rattle.psos_laws.specs.Trails.{IsConfined}
 use Rattle.psos_laws.specs.Laws.{IsLawful}
 use Rattle.psos_laws.specs.Watched.{Watched, IsWatched, script_of, order_of, flat_of}
-use Rattle.psos_laws.proofs.BootSound.{boot_start}
+use Rattle.psos_laws.proofs.BootSoundness.{boot_start}
 use Rattle.psos_laws.proofs.OrderLengths.{orders_end}
 use Rattle.psos_laws.proofs.PlacesLaws.{confined_stays_once}
 use Rattle.psos_laws.proofs.PlacesRuns.{run_is_lawful}
-use Rattle.psos_laws.proofs.SharedSound.{runs_kept}
+use Rattle.psos_laws.proofs.SoundRuns.{runs_kept}
 use Rattle.psos_laws.proofs.RoomToStep.{can_step}
 
 -- each request uses two identifiers at most
