@@ -27,6 +27,7 @@ use Rattle.psos_calls.specs.Language.Tests.{if_there, if_none, if_holds}
 use Rattle.psos_calls.specs.Language.Script.{Script}
 use Rattle.psos_calls.specs.Language.User.{User, here}
 use Rattle.psos_calls.specs.Plan.{Plan, Close, Ask, Runs, give}
+use Rattle.psos_calls.specs.Language.Capabilities.{uid}
 use Rattle.psos_calls.specs.Plan as plans
 use Rattle.psos_calls.specs.Plan.Parts.{Opened, read_dir, put_slot, if_room, fine}
 use Rattle.psos_calls.specs.Plan.Directories.{plan_find, if_may_look}
@@ -60,11 +61,11 @@ lookup_agrees rd rs name s y f u x r =
     runs_cap x h (word_at (here x) rs) _ _ _ (λ cap is_cap.
     let found_plan : Found → Plan = λ found. give rd (words.Cap found.entry.cap) in
     let go : ℕ → Opened → Plan = λ guard d. if_there (find d.slots name) (plans.refuse UnknownName) found_plan in
-    let told : Named → Outcome = λ e. gives [] rd (words.Cap e.cap) (by (DirName (plans.uid cap.uid) name) rights.Lookup) in
+    let told : Named → Outcome = λ e. gives [] rd (words.Cap e.cap) (by (DirName (uid cap.uid) name) rights.Lookup) in
     let res : Directory → Outcome = λ d. if_there (named d name) (refuse UnknownName) told in
     runs_open h r.sound x cap rights.Lookup go res (λ d live slots read.
     runs_named x h cap.uid d live (slot_of y.levels.segs d.rep) slots read name found_plan (plans.refuse UnknownName) told (refuse UnknownName) (refused x h UnknownName) (λ found there is.
-    word_given [] rd (words.Cap found.entry.cap) (words.Cap found.entry.cap) (by (DirName (plans.uid cap.uid) name) rights.Lookup) refl r.in_range.0 h)))
+    word_given [] rd (words.Cap found.entry.cap) (words.Cap found.entry.cap) (by (DirName (uid cap.uid) name) rights.Lookup) refl r.in_range.0 h)))
 
 pub bind_agrees : (rs : ℕ) (name : Name) (rv : ℕ) → Agrees (asks.Bind rs name rv)
 bind_agrees rs name rv s y f u x r =
@@ -148,7 +149,7 @@ module _ {s : Script} {y : System} {f : Flat} (h : StandsFor y f) (sound : IsSou
       asked o = if_may_look (if_there o (No (Absent kinds.Directory)) (λ guard. if_holds (has dir rights.Lookup) (No (Lacks rights.Lookup)) (Guard guard))) next look
 
       given : Named → Outcome
-      given e = gives [] rd (words.Cap e.cap) (by (DirName (plans.uid dir.uid) name) rights.Lookup)
+      given e = gives [] rd (words.Cap e.cap) (by (DirName (uid dir.uid) name) rights.Lookup)
 
       told : Directory → Outcome
       told d = if_there (named d name) (find_in f rest rd name) given
@@ -159,7 +160,7 @@ module _ {s : Script} {y : System} {f : Flat} (h : StandsFor y f) (sound : IsSou
       may d live true later =
           runs_read h sound dir.uid d live opens (Meets x y f (told d)) (λ slots read.
           runs_named x h dir.uid d live (slot_of y.levels.segs d.rep) slots read name found_plan next given (find_in f rest rd name) later (λ found there is.
-          word_given [] rd (words.Cap found.entry.cap) (words.Cap found.entry.cap) (by (DirName (plans.uid dir.uid) name) rights.Lookup) refl small h))
+          word_given [] rd (words.Cap found.entry.cap) (words.Cap found.entry.cap) (by (DirName (uid dir.uid) name) rights.Lookup) refl small h))
 
       by_row : (o : Option Directory) → at f.dirs dir.uid ≡ o → Runs next y.levels (Meets x y f (find_in f rest rd name))
           → Runs (asked (at y.levels.dirs dir.uid)) y.levels (Meets x y f (if_there o (find_in f rest rd name) (λ d. if_holds (has dir rights.Lookup) (find_in f rest rd name) (told d))))

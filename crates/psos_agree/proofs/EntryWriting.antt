@@ -21,6 +21,7 @@ use Rattle.psos_model.specs.Flat.Changes.{changed, with_entry, without_entry}
 use Rattle.psos_model.specs.declared.change.Change.TheVariants.{Bind, Unbind, Register, Unregister}
 use Rattle.psos_model.specs.Replay.{System}
 use Rattle.psos_model.specs.Replay.StandsFor.{StandsFor, HoldsEntries}
+use Rattle.psos_agree.proofs.TablesStand.{tables_stand}
 use Rattle.psos_agree.proofs.SegmentWords.{is_taken, slot_words-set_apart}
 use Rattle.psos_agree.proofs.EntriesStand.{stands_rep, holds_added, holds_removed, slot_small, found_small, length-written}
 use Rattle.psos_agree.specs.Changes.{IsAlone, HasRead, four_put}
@@ -118,48 +119,12 @@ module _ {y : System} {f : Flat} (h : StandsFor y f) (d : ℕ) (x : Directory) (
 -- ---- user objects are told and forgotten
 
 pub stands_enrolled : {y : System} {f : Flat} → StandsFor y f → (u : ℕ) (kind : Kind) → StandsFor (record y { levels = record y.levels { life = put y.levels.life u kind } }) (record f { life = put f.life u kind })
-stands_enrolled h u kind = record {
-  next = h.next;
-  codes = h.codes;
-  boxes = h.boxes;
-  life = ap (λ t. put t u kind) h.life;
-  types = h.types;
-  windows = h.windows;
-  users = h.users;
-  dirs = h.dirs;
-  objects = h.objects;
-  segments = h.segments;
-  reps = h.reps;
-  no_other = h.no_other;
-  apart = h.apart;
-  taken = h.taken;
-  used = h.used;
-  slots = h.slots;
-  words = h.words;
-  entries = h.entries;
-}
+stands_enrolled h u kind =
+    tables_stand h h.next h.codes h.boxes (ap (λ t. put t u kind) h.life) h.types h.windows h.users h.objects
 
 pub stands_forgotten : {y : System} {f : Flat} → StandsFor y f → (u : ℕ) → StandsFor (record y { levels = record y.levels { life = without y.levels.life u } }) (record f { life = without f.life u })
-stands_forgotten h u = record {
-  next = h.next;
-  codes = h.codes;
-  boxes = h.boxes;
-  life = ap (λ t. without t u) h.life;
-  types = h.types;
-  windows = h.windows;
-  users = h.users;
-  dirs = h.dirs;
-  objects = h.objects;
-  segments = h.segments;
-  reps = h.reps;
-  no_other = h.no_other;
-  apart = h.apart;
-  taken = h.taken;
-  used = h.used;
-  slots = h.slots;
-  words = h.words;
-  entries = h.entries;
-}
+stands_forgotten h u =
+    tables_stand h h.next h.codes h.boxes (ap (λ t. without t u) h.life) h.types h.windows h.users h.objects
 
 -- ---- the changes of requests
 

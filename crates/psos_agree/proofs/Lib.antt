@@ -1,4 +1,5 @@
 pub mod PlanWalk
+pub mod TablesStand
 pub mod Views
 pub mod SegmentWords
 pub mod FreshIdentifiers
@@ -22,6 +23,9 @@ pub mod CreationsAgree
 pub mod DeletionsAgree
 pub mod ProcessesAgree
 pub mod RequestsAgree
+pub mod PlanInduction
+pub mod LocksTaken
+pub mod PlanCalls
 pub mod PlanLengths
 pub mod EntryLists
 pub mod BootSlots

@@ -16,6 +16,7 @@ use Rattle.psos_model.specs.declared.change.Change.TheVariants.{MakeObject, Drop
 use Rattle.psos_model.specs.Replay.{System}
 use Rattle.psos_model.specs.Sound.{IsSound}
 use Rattle.psos_model.specs.Replay.StandsFor.{StandsFor, object_row}
+use Rattle.psos_agree.proofs.TablesStand.{tables_stand}
 use Rattle.psos_agree.proofs.SegmentsStand.{stands_made, stands_gone}
 use Rattle.psos_agree.proofs.Representations.{no_directory, no_object}
 use Rattle.psos_agree.specs.Changes.{made_object, gone_object}
@@ -70,26 +71,7 @@ pub stands_object_made : {y : System} {f : Flat} → StandsFor y f → (u : ℕ)
     → StandsFor (record y { levels = made_object y u o len }) (changed f (MakeObject u o len))
 stands_object_made {y = y} {f = f} h u o len new room few =
     let k = stands_made h o.rep len (record { 0 = 1 }) new room few in
-    record {
-      next = k.next;
-      codes = k.codes;
-      boxes = k.boxes;
-      life = k.life;
-      types = k.types;
-      windows = k.windows;
-      users = k.users;
-      dirs = k.dirs;
-      objects = object_put y.levels.types.objects f.objects f.dirs h.objects u o;
-      segments = k.segments;
-      reps = k.reps;
-      no_other = k.no_other;
-      apart = k.apart;
-      taken = k.taken;
-      used = k.used;
-      slots = k.slots;
-      words = k.words;
-      entries = k.entries;
-    }
+    tables_stand k k.next k.codes k.boxes k.life k.types k.windows k.users (object_put y.levels.types.objects f.objects f.dirs h.objects u o)
 
 -- ---- an object goes
 
@@ -99,23 +81,4 @@ pub stands_object_gone : {s : Script} {y : System} {f : Flat} → StandsFor y f 
 stands_object_gone {y = y} {f = f} h sound u o live =
     let good = sound.objects u o live in
     let k = stands_gone h sound o.rep good.rep good.live in
-    record {
-      next = k.next;
-      codes = k.codes;
-      boxes = k.boxes;
-      life = k.life;
-      types = k.types;
-      windows = k.windows;
-      users = k.users;
-      dirs = k.dirs;
-      objects = object_without y.levels.types.objects f.objects f.dirs h.objects u (no_directory sound u o live);
-      segments = k.segments;
-      reps = k.reps;
-      no_other = k.no_other;
-      apart = k.apart;
-      taken = k.taken;
-      used = k.used;
-      slots = k.slots;
-      words = k.words;
-      entries = k.entries;
-    }
+    tables_stand k k.next k.codes k.boxes k.life k.types k.windows k.users (object_without y.levels.types.objects f.objects f.dirs h.objects u (no_directory sound u o live))

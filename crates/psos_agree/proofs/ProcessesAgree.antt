@@ -18,7 +18,6 @@ use Rattle.psos_calls.specs.declared.level_answer.LevelAnswer.TheVariants.{Done,
 use Rattle.psos_calls.specs.declared.obj_row.ObjRow.{ObjRow}
 use Rattle.psos_calls.specs.declared.refusal.Refusal.TheVariants.{Absent, Lacks, Guarded, Exhausted, Empty, WrongType}
 use Rattle.psos_calls.specs.declared.reply.Reply.TheVariants as replies
-use Rattle.psos_calls.specs.declared.request.Request.{Request}
 use Rattle.psos_calls.specs.declared.request.Request.TheVariants.{Impl, Send, Recv, Call}
 use Rattle.psos_calls.specs.declared.right.Right.TheVariants as rights
 use Rattle.psos_calls.specs.declared.tab.Tab.TheVariants.{Mailbox}
@@ -41,6 +40,7 @@ use Rattle.psos_model.specs.Replay.{System}
 use Rattle.psos_model.specs.Sound.{IsSound}
 use Rattle.psos_model.specs.Replay.StandsFor.{StandsFor, object_row}
 use Rattle.psos_agree.specs.Agreement.{Meets, Agrees}
+use Rattle.psos_agree.proofs.TablesStand.{tables_stand}
 use Rattle.psos_agree.proofs.PlanWalk.{refused, runs_cap, runs_holds, answers_there, answers_holds, word_given, changes_made}
 
 -- ---- an implementation capability
@@ -82,26 +82,8 @@ impl_agrees rd rt ro s y f u x r =
 -- the mailboxes of level 12 and of the flat state
 pub stands_boxes : {y : System} {f : Flat} → StandsFor y f → (a b : BoxState) → a ≡ b
     → StandsFor (record y { levels = record y.levels { boxes = a } }) (record f { boxes = b })
-stands_boxes h a b e = record {
-  next = h.next;
-  codes = h.codes;
-  boxes = e;
-  life = h.life;
-  types = h.types;
-  windows = h.windows;
-  users = h.users;
-  dirs = h.dirs;
-  objects = h.objects;
-  segments = h.segments;
-  reps = h.reps;
-  no_other = h.no_other;
-  apart = h.apart;
-  taken = h.taken;
-  used = h.used;
-  slots = h.slots;
-  words = h.words;
-  entries = h.entries;
-}
+stands_boxes h a b e =
+    tables_stand h h.next h.codes e h.life h.types h.windows h.users h.objects
 
 -- one mailbox changes
 stands_box : {y : System} {f : Flat} → StandsFor y f → (u : ℕ) (change : List Word → List Word) (box : List Word) → at y.levels.boxes u ≡ Some box

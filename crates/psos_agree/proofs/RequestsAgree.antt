@@ -21,6 +21,7 @@ use Rattle.psos_model.specs.Sound.{IsSound}
 use Rattle.psos_model.specs.Replay.StandsFor.{StandsFor}
 use Rattle.psos_model.proofs.RequestRanges.{in_range}
 use Rattle.psos_agree.specs.Agreement.{Ready, Meets, Agrees, KeepsIfNo, RequestsAgree}
+use Rattle.psos_agree.proofs.TablesStand.{tables_stand}
 use Rattle.psos_agree.proofs.SegmentsAgree.{mint_agrees, restrict_agrees, set_agrees, move_agrees, add_agrees, read_agrees, write_agrees, window_agrees, length_agrees}
 use Rattle.psos_agree.proofs.DirectoriesAgree.{lookup_agrees, bind_agrees, unbind_agrees, list_agrees, path_agrees, find_agrees}
 use Rattle.psos_agree.proofs.TypeAndCodeCreation.{mktype_agrees, mkcode_agrees}
@@ -64,26 +65,8 @@ runs_run (Ask call go) l P h = runs_run (go (act l call).1) (act l call).0 P h.1
 
 -- the users' own parts stand apart
 pub with_users : {y : System} {f : Flat} → StandsFor y f → (us vs : List User) → us ≡ vs → StandsFor (record y { users = us }) (record f { users = vs })
-with_users h us vs e = record {
-  next = h.next;
-  codes = h.codes;
-  boxes = h.boxes;
-  life = h.life;
-  types = h.types;
-  windows = h.windows;
-  users = e;
-  dirs = h.dirs;
-  objects = h.objects;
-  segments = h.segments;
-  reps = h.reps;
-  no_other = h.no_other;
-  apart = h.apart;
-  taken = h.taken;
-  used = h.used;
-  slots = h.slots;
-  words = h.words;
-  entries = h.entries;
-}
+with_users h us vs e =
+    tables_stand h h.next h.codes h.boxes h.life h.types h.windows e h.objects
 
 -- ---- one step
 

@@ -27,6 +27,7 @@ use Rattle.psos_model.specs.declared.change.Change.TheVariants.{Fresh, MakeWindo
 use Rattle.psos_model.specs.Replay.{System}
 use Rattle.psos_model.specs.Replay.StandsFor.{StandsFor}
 use Rattle.psos_agree.specs.Agreement.{Agrees}
+use Rattle.psos_agree.proofs.TablesStand.{tables_stand}
 use Rattle.psos_agree.proofs.PlanWalk.{runs_cap, runs_data, runs_holds, answers_there, answers_holds, answers_none, word_given, changes_made}
 use Rattle.psos_agree.proofs.Views.{reg_seen, same_view, view_within}
 use Rattle.psos_agree.proofs.SegmentWords.{page_of_word, place_of_word, word_there, can_reach, stands_put}
@@ -55,26 +56,8 @@ add_agrees rd ra rb s y f u x r =
 
 -- a new identifier of level 0 and of the flat state
 pub stands_fresh : {y : System} {f : Flat} → StandsFor y f → StandsFor (record y { levels = record y.levels { next = y.levels.next + 1 } }) (record f { next = f.next + 1 })
-stands_fresh h = record {
-  next = ap (λ n. n + 1) h.next;
-  codes = h.codes;
-  boxes = h.boxes;
-  life = h.life;
-  types = h.types;
-  windows = h.windows;
-  users = h.users;
-  dirs = h.dirs;
-  objects = h.objects;
-  segments = h.segments;
-  reps = h.reps;
-  no_other = h.no_other;
-  apart = h.apart;
-  taken = h.taken;
-  used = h.used;
-  slots = h.slots;
-  words = h.words;
-  entries = h.entries;
-}
+stands_fresh h =
+    tables_stand h (ap (λ n. n + 1) h.next) h.codes h.boxes h.life h.types h.windows h.users h.objects
 
 pub mint_agrees : (rd : ℕ) → Agrees (asks.Mint rd)
 mint_agrees rd s y f u x r =
@@ -135,26 +118,8 @@ length_agrees rd rs s y f u x r =
 -- a window of level 8 and of the flat state, on a new identifier
 stands_window : {y : System} {f : Flat} → StandsFor y f → (row : WinRow)
     → StandsFor (record y { levels = record y.levels { next = y.levels.next + 1; segs = record y.levels.segs { windows = put y.levels.segs.windows y.levels.next row } } }) (changed_all f (MakeWindow f.next row ∷ Fresh ∷ []))
-stands_window h row = record {
-  next = ap (λ n. n + 1) h.next;
-  codes = h.codes;
-  boxes = h.boxes;
-  life = h.life;
-  types = h.types;
-  windows = λ i. put (h.windows i) (h.next i) row;
-  users = h.users;
-  dirs = h.dirs;
-  objects = h.objects;
-  segments = h.segments;
-  reps = h.reps;
-  no_other = h.no_other;
-  apart = h.apart;
-  taken = h.taken;
-  used = h.used;
-  slots = h.slots;
-  words = h.words;
-  entries = h.entries;
-}
+stands_window h row =
+    tables_stand h (ap (λ n. n + 1) h.next) h.codes h.boxes h.life h.types (λ i. put (h.windows i) (h.next i) row) h.users h.objects
 
 pub window_agrees : (rd rs base span : ℕ) → Agrees (asks.Window rd rs base span)
 window_agrees rd rs base span s y f u x r =

@@ -41,6 +41,7 @@ use Rattle.psos_model.specs.Replay.{System}
 use Rattle.psos_model.specs.Sound.{IsSound}
 use Rattle.psos_model.specs.Replay.StandsFor.{StandsFor, named_of}
 use Rattle.psos_agree.specs.Agreement.{Ready, Meets, Agrees}
+use Rattle.psos_agree.proofs.TablesStand.{tables_stand}
 use Rattle.psos_agree.proofs.PlanWalk.{refused, runs_cap, runs_holds, answers_none}
 use Rattle.psos_agree.proofs.EntriesStand.{alone}
 use Rattle.psos_agree.proofs.DirectoryOpening.{runs_open}
@@ -53,50 +54,14 @@ use Rattle.psos_agree.specs.Changes.{IsAlone, HasRead}
 -- a type on a new identifier
 pub stands_type : {y : System} {f : Flat} → StandsFor y f
     → StandsFor (record y { levels = record y.levels { next = y.levels.next + 1; types = record y.levels.types { types = put y.levels.types.types y.levels.next true } } }) (changed_all f (MakeType f.next ∷ Fresh ∷ []))
-stands_type h = record {
-  next = ap (λ n. n + 1) h.next;
-  codes = h.codes;
-  boxes = h.boxes;
-  life = h.life;
-  types = λ i. put (h.types i) (h.next i) true;
-  windows = h.windows;
-  users = h.users;
-  dirs = h.dirs;
-  objects = h.objects;
-  segments = h.segments;
-  reps = h.reps;
-  no_other = h.no_other;
-  apart = h.apart;
-  taken = h.taken;
-  used = h.used;
-  slots = h.slots;
-  words = h.words;
-  entries = h.entries;
-}
+stands_type h =
+    tables_stand h (ap (λ n. n + 1) h.next) h.codes h.boxes h.life (λ i. put (h.types i) (h.next i) true) h.windows h.users h.objects
 
 -- a procedure record on a new identifier
 pub stands_code : {y : System} {f : Flat} → StandsFor y f → (row : CodeRow)
     → StandsFor (record y { levels = record y.levels { next = y.levels.next + 1; codes = put y.levels.codes y.levels.next row } }) (changed_all f (MakeCode f.next row ∷ Fresh ∷ []))
-stands_code h row = record {
-  next = ap (λ n. n + 1) h.next;
-  codes = λ i. put (h.codes i) (h.next i) row;
-  boxes = h.boxes;
-  life = h.life;
-  types = h.types;
-  windows = h.windows;
-  users = h.users;
-  dirs = h.dirs;
-  objects = h.objects;
-  segments = h.segments;
-  reps = h.reps;
-  no_other = h.no_other;
-  apart = h.apart;
-  taken = h.taken;
-  used = h.used;
-  slots = h.slots;
-  words = h.words;
-  entries = h.entries;
-}
+stands_code h row =
+    tables_stand h (ap (λ n. n + 1) h.next) (λ i. put (h.codes i) (h.next i) row) h.boxes h.life h.types h.windows h.users h.objects
 
 -- the next identifier of level 0 is no user object of level 11
 next_no_object : {s : Script} {y : System} {f : Flat} → StandsFor y f → IsSound s f → at y.levels.life y.levels.next ≡ None

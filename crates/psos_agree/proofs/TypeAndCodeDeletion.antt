@@ -36,6 +36,7 @@ use Rattle.psos_model.specs.Replay.{System}
 use Rattle.psos_model.specs.Sound.{IsSound}
 use Rattle.psos_model.specs.Replay.StandsFor.{StandsFor, object_row}
 use Rattle.psos_agree.specs.Agreement.{Meets}
+use Rattle.psos_agree.proofs.TablesStand.{tables_stand}
 use Rattle.psos_agree.proofs.PlanWalk.{refused}
 use Rattle.psos_agree.proofs.EntriesStand.{alone}
 use Rattle.psos_agree.proofs.ObjectEntries.{runs_forgotten}
@@ -46,48 +47,12 @@ use Rattle.psos_agree.specs.Changes.{IsAlone, HasRead}
 
 pub stands_type_gone : {y : System} {f : Flat} → StandsFor y f → (u : ℕ)
     → StandsFor (record y { levels = record y.levels { types = record y.levels.types { types = without y.levels.types.types u } } }) (changed f (DropType u))
-stands_type_gone h u = record {
-  next = h.next;
-  codes = h.codes;
-  boxes = h.boxes;
-  life = h.life;
-  types = ap (λ (t : Table Bool). without t u) h.types;
-  windows = h.windows;
-  users = h.users;
-  dirs = h.dirs;
-  objects = h.objects;
-  segments = h.segments;
-  reps = h.reps;
-  no_other = h.no_other;
-  apart = h.apart;
-  taken = h.taken;
-  used = h.used;
-  slots = h.slots;
-  words = h.words;
-  entries = h.entries;
-}
+stands_type_gone h u =
+    tables_stand h h.next h.codes h.boxes h.life (ap (λ (t : Table Bool). without t u) h.types) h.windows h.users h.objects
 
 pub stands_code_gone : {y : System} {f : Flat} → StandsFor y f → (u : ℕ) → StandsFor (record y { levels = record y.levels { codes = without y.levels.codes u } }) (changed f (DropCode u))
-stands_code_gone h u = record {
-  next = h.next;
-  codes = ap (λ (t : Table CodeRow). without t u) h.codes;
-  boxes = h.boxes;
-  life = h.life;
-  types = h.types;
-  windows = h.windows;
-  users = h.users;
-  dirs = h.dirs;
-  objects = h.objects;
-  segments = h.segments;
-  reps = h.reps;
-  no_other = h.no_other;
-  apart = h.apart;
-  taken = h.taken;
-  used = h.used;
-  slots = h.slots;
-  words = h.words;
-  entries = h.entries;
-}
+stands_code_gone h u =
+    tables_stand h h.next (ap (λ (t : Table CodeRow). without t u) h.codes) h.boxes h.life h.types h.windows h.users h.objects
 
 -- ---- the objects of a type
 

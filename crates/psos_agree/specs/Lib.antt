@@ -1,3 +1,3 @@
 pub mod Agreement
 pub mod Changes
-pub mod Frames
+pub mod Standing

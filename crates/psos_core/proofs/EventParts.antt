@@ -22,7 +22,7 @@ use Rattle.psos_calls.specs.Locks.{lock_of}
 use Rattle.psos_calls.specs.Locks.Held.{is_held}
 use Rattle.psos_model.specs.Run.{current_phase}
 use Rattle.psos_model.specs.Events.{CoreState, locks_of, trace_of, called, closed, core_step}
-use Rattle.psos_laws.proofs.StepsShared.{set_apart, set_here}
+use Rattle.psos_laws.proofs.UnchangedPlaces.{set_apart, set_here}
 use Rattle.psos_events.proofs.OpenTraces.{step_of}
 use Rattle.psos_core.specs.declared.levels.Levels.{Levels}
 use Rattle.psos_core.specs.declared.ongoing.Ongoing.{Ongoing}

@@ -4,7 +4,7 @@ use Rattle.psos_calls.specs.declared.entry.Entry.{Entry}
 use Rattle.psos_calls.specs.Language.Script.{Script, IsWellFormed}
 use Rattle.psos_model.specs.Flat.Boot.{boot}
 use Rattle.psos_model.specs.Replay.{System, boot_system}
-use Rattle.psos_laws.proofs.BootSound.{boot_start}
+use Rattle.psos_laws.proofs.BootSoundness.{boot_start}
 use Rattle.psos_agree.proofs.BootStands.{boot_stands}
 use Rattle.psos_model.specs.Events.Serial.{IsCoreStart}
 use Rattle.psos_core.specs.Serving.{IsRunFrom, IsWholeRun}

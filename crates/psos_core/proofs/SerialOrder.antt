@@ -13,7 +13,7 @@ use Rattle.psos_model.specs.Run.{phase_at, phase_in, phase_of, earlier, current_
 use Rattle.psos_model.specs.Run.SerialOrder.{IsFirst}
 use Rattle.psos_laws.proofs.UserProgress.{GoesOn, one_if_outside}
 use Rattle.psos_laws.proofs.AnswerProgress.{pick}
-use Rattle.psos_laws.proofs.StepsShared.{set_apart, set_here}
+use Rattle.psos_laws.proofs.UnchangedPlaces.{set_apart, set_here}
 use Rattle.psos_core.specs.UnderWay.{phases_most, asked_before, due, AtLeast, IsPast, IsWithin, IsAt}
 use Rattle.psos_core.proofs.PhaseRequests.{at_zero, phase_low, phase_high, phase_next, phase_within}
 use Rattle.psos_core.proofs.ScriptPhases.{phases_of_user}

@@ -18,7 +18,7 @@ use Rattle.psos_model.specs.Replay.StandsFor.{StandsFor}
 use Rattle.psos_model.specs.Run.SerialOrder.{IsFirst, IsSerialFrom}
 use Rattle.psos_model.proofs.AnswerBounds.{at_most_two}
 use Rattle.psos_model.proofs.RequestRanges.{can_count}
-use Rattle.psos_laws.proofs.SharedSound.{runs_kept}
+use Rattle.psos_laws.proofs.SoundRuns.{runs_kept}
 use Rattle.psos_laws.proofs.PlacesRuns.{runs_are_lawful}
 use Rattle.psos_laws.proofs.RoomToStep.{can_step}
 use Rattle.psos_laws.proofs.OrderLengths.{orders_end}

@@ -19,7 +19,7 @@ use Rattle.psos_model.specs.Events.Serial.{IsCoreStart, committed}
 use Rattle.psos_events.specs.Events.{system_in, EventsEnd}
 use Rattle.psos_events.proofs.MailboxRows.{box_below}
 use Rattle.psos_events.proofs.LockScope.{Same}
-use Rattle.psos_events.proofs.LockOrder.{lock_at}
+use Rattle.psos_agree.proofs.LocksTaken.{lock_at}
 use Rattle.psos_events.proofs.Progress.{StillGoes, from_start}
 
 -- levels are the same where each of them is

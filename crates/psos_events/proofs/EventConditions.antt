@@ -23,7 +23,7 @@ use Rattle.psos_model.specs.Replay.{System, order_of, answered_of}
 use Rattle.psos_model.specs.Events.{CoreState, locks_of, trace_of, core_of, core_after, event_of}
 use Rattle.psos_model.specs.Events.Serial.{IsCoreStart, committed, traced}
 use Rattle.psos_model.proofs.RequestRanges.{in_range, can_count}
-use Rattle.psos_laws.proofs.BootSound.{boot_start}
+use Rattle.psos_laws.proofs.BootSoundness.{boot_start}
 use Rattle.psos_laws.proofs.RoomToStep.{can_step}
 use Rattle.psos_agree.specs.Agreement.{Meets}
 use Rattle.psos_agree.proofs.BootStands.{boot_stands}

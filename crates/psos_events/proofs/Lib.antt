@@ -6,7 +6,6 @@ pub mod Replays
 pub mod EventMoves
 pub mod ReplayInvariant
 pub mod CommittedValues
-pub mod PlanInduction
 pub mod LockOrder
 pub mod RequestsLeft
 pub mod Progress

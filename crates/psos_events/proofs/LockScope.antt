@@ -93,9 +93,6 @@ same_lock_is a b e =
     let part : a.part ≡ b.part = eqb-true a.part b.part both.1 in
     ap (λ (l : Level). (let k : LockId = record { level = l; part = a.part } in k)) level ∙ ap (λ (n : ℕ). (let k : LockId = record { level = b.level; part = n } in k)) part
 
-pub same_lock_refl : (a : LockId) → same_lock a a ≡ true
-same_lock_refl a = and_from (eqb (rank a.level) (rank a.level)) (eqb a.part a.part) (eq-eqb (rank a.level) (rank a.level) refl) (eq-eqb a.part a.part refl)
-
 pub lock_is_lock : (users : ℕ) → 0 < users → (call : LevelCall) → is_lock users (lock_of users call) ≡ true
 lock_is_lock users some (Post to word) = lt-ltb (box_of users to.uid) users (box_below users to.uid some)
 lock_is_lock users some (Draw uid) = lt-ltb (box_of users uid.0) users (box_below users uid.0 some)

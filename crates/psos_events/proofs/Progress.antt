@@ -26,7 +26,7 @@ use Rattle.psos_model.specs.Events.{CoreState, Event, Take, Call, locks_of, trac
 use Rattle.psos_model.specs.Events as core
 use Rattle.psos_model.specs.Events.Serial.{IsCoreStart, NeverStuck}
 use Rattle.psos_laws.proofs.AnswerProgress.{pick}
-use Rattle.psos_laws.proofs.StepsShared.{set_apart}
+use Rattle.psos_laws.proofs.UnchangedPlaces.{set_apart}
 use Rattle.psos_laws.proofs.RequestsLeft.{left_within, has_user}
 use Rattle.psos_events.proofs.LockScope.{same_lock_is}
 use Rattle.psos_events.proofs.OpenTraces.{step_of, followed_none, followed_more}

@@ -31,7 +31,7 @@ use Rattle.psos_model.specs.Events as core
 use Rattle.psos_model.specs.Sound.{IsSound}
 use Rattle.psos_model.specs.Replay.StandsFor.{StandsFor}
 use Rattle.psos_model.specs.Events.Serial.{traced, committed, IsSerial, IsCoreStart, EventsAreSerial}
-use Rattle.psos_laws.proofs.StepsShared.{set_apart}
+use Rattle.psos_laws.proofs.UnchangedPlaces.{set_apart}
 use Rattle.psos_events.proofs.MailboxRows.{NoOthers, box_of_process}
 use Rattle.psos_table.specs.Table.{at}
 use Rattle.psos_words.specs.declared.word.Word.{Word}

@@ -14,7 +14,7 @@ use Rattle.psos_model.specs.Replay.{System, replay_step, replay_to, entries_from
 use Rattle.psos_model.specs.Sound.{IsSound}
 use Rattle.psos_model.specs.Replay.StandsFor.{StandsFor}
 use Rattle.psos_model.proofs.AnswerBounds.{at_most_two}
-use Rattle.psos_laws.proofs.SharedSound.{answers_kept}
+use Rattle.psos_laws.proofs.SoundRuns.{answers_kept}
 use Rattle.psos_laws.proofs.OrderLengths.{orders_end}
 use Rattle.psos_agree.proofs.RequestsAgree.{step_agrees}
 use Rattle.psos_agree.proofs.PlanLengths.{plans_are_short}

@@ -13,8 +13,8 @@ use Rattle.psos_calls.specs.Language.Script.{Script, user_script, body_of}
 use Rattle.psos_calls.specs.Language.User.{User, counted, with_reg, settled, outward, ended, after}
 use Rattle.psos_calls.specs.Language.Tests.{if_there}
 use Rattle.psos_model.specs.Run.{phase_at, phase_in, phase_of, earlier, current_phase, is_now, is_open, is_left, has_left}
-use Rattle.psos_laws.proofs.StepsShared.{set_apart}
-use Rattle.psos_laws.proofs.UsersSound.{each_set}
+use Rattle.psos_laws.proofs.UnchangedPlaces.{set_apart}
+use Rattle.psos_laws.proofs.UserSoundness.{each_set}
 
 -- ---- phases from one on
 

@@ -14,7 +14,7 @@ use Rattle.psos_model.specs.Run.{is_left, has_left}
 use Rattle.psos_model.specs.Sound.{IsStart}
 use Rattle.psos_model.proofs.OutcomeWalk.{FindsRoom, by_outcome}
 use Rattle.psos_model.proofs.FlatStep.{answer_is}
-use Rattle.psos_laws.proofs.UsersSound.{each_set}
+use Rattle.psos_laws.proofs.UserSoundness.{each_set}
 use Rattle.psos_laws.proofs.RequestsLeft.{left_within, has_user}
 use Rattle.psos_laws.proofs.UserProgress.{IsGoing, GoesOn, AsksIn, goes_on}
 

@@ -18,7 +18,7 @@ use Rattle.psos_model.specs.Sound.Roles.{Role}
 use Rattle.psos_model.specs.Sound.Roles as roles
 use Rattle.psos_model.specs.Sound.{IsSound}
 use Rattle.psos_laws.specs.Landings.{before}
-use Rattle.psos_laws.specs.History.{Event, event_by, event_at}
+use Rattle.psos_laws.specs.History.{Transition, transition_by, transition_at}
 use Rattle.psos_laws.proofs.StepLaws.{Step, Ground}
 use Rattle.psos_laws.proofs.OutcomeSteps.{all_puts, fair_steps}
 use Rattle.psos_laws.proofs.FairRequests.{fair}
@@ -81,11 +81,11 @@ step_none f u = record {
   windows = λ w y e. inl e;
 }
 
--- an event leads to a state
-abbrev pub LeadsTo : Event → Flat → Type 0
+-- a transition leads to a state
+abbrev pub LeadsTo : Transition → Flat → Type 0
 LeadsTo e g = Step e.flat g e.user e.landings e.moved
 
-asked : (s : Script) (f : Flat) (u : ℕ) (x : User) → IsSound s f → slice_get f.users u ≡ Some x → (r : Option Request) → LeadsTo (event_by s f u x r) (answer_to s f u x r).0
+asked : (s : Script) (f : Flat) (u : ℕ) (x : User) → IsSound s f → slice_get f.users u ≡ Some x → (r : Option Request) → LeadsTo (transition_by s f u x r) (answer_to s f u x r).0
 asked s f u x sound there None = step_none f u
 asked s f u x sound there (Some r) =
     let number : x.number ≡ u = (sound.users u x there).number in
@@ -95,34 +95,34 @@ asked s f u x sound there (Some r) =
     subst (λ (v : ℕ). Step f (record (changed_all f o.changes) { users = slice_set f.users v (after s x o.effect) }) v (all_puts s f x o) (before o.changes)) number
     (fair_steps s f x o is ground (fair f x is ground r))
 
-abbrev pub event_of : Script → Flat → ℕ → Option User → Event
-event_of s f u o = if_there o (record { flat = f; user = u; landings = []; moved = λ p. p }) (λ x. event_by s f u x (next_request s x))
+abbrev pub transition_of : Script → Flat → ℕ → Option User → Transition
+transition_of s f u o = if_there o (record { flat = f; user = u; landings = []; moved = λ p. p }) (λ x. transition_by s f u x (next_request s x))
 
 abbrev pub answer_of : Script → Flat → ℕ → Option User → Flat
 answer_of s f u o = (if_there o (f, silence u) (λ x. answer_to s f u x (next_request s x))).0
 
-event_flat_by : (s : Script) (f : Flat) (u : ℕ) (x : User) (r : Option Request) → ((event_by s f u x r).flat ≡ f) × ((event_by s f u x r).user ≡ u)
-event_flat_by s f u x None = (refl, refl)
-event_flat_by s f u x (Some r) = (refl, refl)
+transition_flat_by : (s : Script) (f : Flat) (u : ℕ) (x : User) (r : Option Request) → ((transition_by s f u x r).flat ≡ f) × ((transition_by s f u x r).user ≡ u)
+transition_flat_by s f u x None = (refl, refl)
+transition_flat_by s f u x (Some r) = (refl, refl)
 
--- the event of an answer has the state before it, and its user
-pub event_is : (s : Script) (f : Flat) (u : ℕ) → ((event_at s f u).flat ≡ f) × ((event_at s f u).user ≡ u)
-event_is s f u = by_user (slice_get f.users u)
+-- the transition of an answer has the state before it, and its user
+pub transition_is : (s : Script) (f : Flat) (u : ℕ) → ((transition_at s f u).flat ≡ f) × ((transition_at s f u).user ≡ u)
+transition_is s f u = by_user (slice_get f.users u)
   where
-    by_user : (o : Option User) → ((event_of s f u o).flat ≡ f) × ((event_of s f u o).user ≡ u)
+    by_user : (o : Option User) → ((transition_of s f u o).flat ≡ f) × ((transition_of s f u o).user ≡ u)
     by_user None = (refl, refl)
-    by_user (Some x) = event_flat_by s f u x (next_request s x)
+    by_user (Some x) = transition_flat_by s f u x (next_request s x)
 
-pub answer_leads : (s : Script) (f : Flat) (u : ℕ) → IsSound s f → LeadsTo (event_at s f u) (answer s f u).0
+pub answer_leads : (s : Script) (f : Flat) (u : ℕ) → IsSound s f → LeadsTo (transition_at s f u) (answer s f u).0
 answer_leads s f u sound = by_user (slice_get f.users u) refl
   where
-    by_user : (o : Option User) → slice_get f.users u ≡ o → LeadsTo (event_of s f u o) (answer_of s f u o)
+    by_user : (o : Option User) → slice_get f.users u ≡ o → LeadsTo (transition_of s f u o) (answer_of s f u o)
     by_user None there = step_none f u
     by_user (Some x) there = asked s f u x sound there (next_request s x)
 
-pub answer_steps : (s : Script) (f : Flat) (u : ℕ) → IsSound s f → Step f (answer s f u).0 u (event_at s f u).landings (event_at s f u).moved
+pub answer_steps : (s : Script) (f : Flat) (u : ℕ) → IsSound s f → Step f (answer s f u).0 u (transition_at s f u).landings (transition_at s f u).moved
 answer_steps s f u sound =
-    let e = event_at s f u in
-    let is = event_is s f u in
+    let e = transition_at s f u in
+    let is = transition_is s f u in
     let P : Flat → ℕ → Type 0 = λ a v. Step a (answer s f u).0 v e.landings e.moved in
     subst (λ a. P a u) is.0 (subst (λ v. P e.flat v) is.1 (answer_leads s f u sound))

@@ -16,7 +16,7 @@ use Rattle.psos_model.specs.Flat.Places.{frame_at}
 use Rattle.psos_laws.specs.Landings.{is_over}
 use Rattle.psos_laws.specs.Arrivals.{AreFull, AreCallers}
 use Rattle.psos_laws.proofs.OwnArrivals.{closing}
-use Rattle.psos_laws.proofs.StepsShared.{set_here, set_apart}
+use Rattle.psos_laws.proofs.UnchangedPlaces.{set_here, set_apart}
 
 -- ---- bodies by their depth
 

@@ -126,7 +126,7 @@ went s w (v ∷ us) f u x h legal there =
         subst Q (sym same) (subst (λ z. Went s f (v ∷ us) v z) mine (own_turn s f v us t t.x.frames refl (subst P same (rest t.y here))))
 
 -- after a run all users are on their way
-run_going : (s : Script) → IsWellFormed s → (order : List ℕ) (f : Flat) → AreGoing s f.users → IsLegalFrom s f order → AreGoing s (run_from s f order).users
+pub run_going : (s : Script) → IsWellFormed s → (order : List ℕ) (f : Flat) → AreGoing s f.users → IsLegalFrom s f order → AreGoing s (run_from s f order).users
 run_going s w [] f h legal = h
 run_going s w (v ∷ us) f h legal = run_going s w us (answer s f v).0 (turn_going s f v h (turn s w f v h legal.0)) legal.1
 

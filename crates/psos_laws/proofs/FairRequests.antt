@@ -1,5 +1,5 @@
 -- Each of the 25 requests has a fair outcome.
-use Rattle.std.proofs.Common.{◌≡◌, ◌⊎◌, ℕ, zero, suc, ◌+◌, ◌<◌, ◌==◌, ◌^◌, Bool, true, false, not, List, [], ◌∷◌, length, slice_get, nat_lt, nat_le, Option, Some, None, option_map, option_and_then, refl, sym, ap, subst, ◌∙◌, inl, inr, arith}
+use Rattle.std.proofs.Common.{◌≡◌, ◌⊎◌, ℕ, ◌+◌, ◌<◌, ◌==◌, ◌^◌, true, not, List, [], ◌∷◌, length, slice_get, nat_lt, nat_le, Option, Some, None, option_map, option_and_then, refl, sym, ap, subst, ◌∙◌, inl, inr, arith}
 use Rattle.std.specs.FinMap.{len}
 use Rattle.std.proofs.lemmas.Bool.{eq-eqb, eqb-true}
 use Rattle.std.proofs.lemmas.Option.{none-some}
@@ -23,25 +23,28 @@ use Rattle.psos_calls.specs.Language.Views.{View, fits_in, part_of}
 use Rattle.psos_calls.specs.Language.Capabilities.{uid}
 use Rattle.psos_calls.specs.Language.Stores.{is_length}
 use Rattle.psos_calls.specs.Language.Rights.{has}
-use Rattle.psos_calls.specs.Language.Tests.{if_there, if_holds}
+use Rattle.psos_calls.specs.Language.Tests.{if_there}
 use Rattle.psos_calls.specs.Language.User.{User, here}
 use Rattle.psos_model.specs.declared.place.Place.TheVariants.{PathAt, SegWord, DirName, BoxAt, Link, ImplOf}
 use Rattle.psos_model.specs.Flat.{Flat, Object, Directory, Named, named, flat_view, words_of}
 use Rattle.psos_model.specs.Flat.Places.{cap_in, is_own, guard_at, rep_cap, reg_place}
 use Rattle.psos_model.specs.declared.change.Change.TheVariants.{Unregister}
-use Rattle.psos_model.specs.Answer.Outcomes.{Outcome, Source, gives, by, own}
-use Rattle.psos_model.specs.Answer.Directories.{find_in}
+use Rattle.psos_model.specs.Answer.Outcomes.{Source, own}
 use Rattle.psos_model.specs.Answer.Objects.{has_objects, drops}
 use Rattle.psos_model.specs.Answer.Processes.{received}
 use Rattle.psos_model.specs.Answer.{outcome}
+use Rattle.psos_model.proofs.OutcomeRules.{Refuses, by_cap, by_data, by_there, by_none, by_holds, by_view, by_dir, by_room, by_object_room, by_make, by_find}
 use Rattle.psos_laws.specs.Landings.{lands, passed}
 use Rattle.psos_laws.specs.Reads.{Contains, IsCopy, IsFirstMessage, HasRight, MayRead, MayWindow}
 use Rattle.psos_laws.proofs.Landings.{same_cap}
 use Rattle.psos_laws.proofs.StepLaws.{Fair, Ground, Lawful, IsNew, NewRep}
-use Rattle.psos_laws.proofs.StepsShared.{cap_own}
-use Rattle.psos_laws.proofs.FairRules.{contains_and, view_leads, view_guard, words_cap, is_mine, held_reg, own_copy, reader, in_reg, in_store, new_reg, new_store, not_rep, refused, word_goes, by_cap, by_data, by_there, by_none, by_holds, by_view, by_dir, by_room, by_object_room, by_make}
+use Rattle.psos_laws.proofs.UnchangedPlaces.{cap_own}
+use Rattle.psos_laws.proofs.FairRules.{contains_and, view_leads, view_guard, words_cap, is_mine, held_reg, own_copy, reader, in_reg, in_store, new_reg, new_store, not_rep, refused, word_goes}
 
 module _ (f : Flat) (x : User) (is : slice_get f.users x.number ≡ Some x) (ground : Ground f) where
+  no : Refuses (Fair f x)
+  no = refused f x is
+
   -- ---- registers, segments and windows
 
   fair_mint : (rd : ℕ) → Fair f x (outcome f x (asks.Mint rd))
@@ -61,7 +64,7 @@ module _ (f : Flat) (x : User) (is : slice_get f.users x.number ≡ Some x) (gro
 
   fair_read : (rd rs n : ℕ) → Fair f x (outcome f x (asks.Read rd rs n))
   fair_read rd rs n =
-      by_cap f x is (word_at (here x) rs) _ (λ c e. by_view f x is c rights.Read _ (λ v there may. by_holds f x is (nat_lt n v.len) refusals.Range _ (λ _.
+      by_cap no (word_at (here x) rs) _ (λ c e. by_view no f c rights.Read _ (λ v there may. by_holds no (nat_lt n v.len) refusals.Range _ (λ _.
       word_goes f x is rd (word_at (words_of f v.seg) (v.base + n)) _ (λ k same. record {
         old = k;
         held = words_cap f v.seg (v.base + n) ∙ ap cap_in same;
@@ -72,8 +75,8 @@ module _ (f : Flat) (x : User) (is : slice_get f.users x.number ≡ Some x) (gro
 
   fair_write : (rs n rv : ℕ) → Fair f x (outcome f x (asks.Write rs n rv))
   fair_write rs n rv =
-      by_cap f x is (word_at (here x) rs) _ (λ c e. by_view f x is c rights.Write _ (λ v there may. by_holds f x is (nat_lt n v.len) refusals.Range _ (λ _.
-      by_none f x is (barred v.guard.0 (word_at (here x) rv)) refusals.Guarded _ (λ ok.
+      by_cap no (word_at (here x) rs) _ (λ c e. by_view no f c rights.Write _ (λ v there may. by_holds no (nat_lt n v.len) refusals.Range _ (λ _.
+      by_none no (barred v.guard.0 (word_at (here x) rv)) refusals.Guarded _ (λ ok.
       record {
         short = refl;
         safe = (tt, ((λ p. refl), tt));
@@ -89,8 +92,8 @@ module _ (f : Flat) (x : User) (is : slice_get f.users x.number ≡ Some x) (gro
 
   fair_window : (rd rs base span : ℕ) → Fair f x (outcome f x (asks.Window rd rs base span))
   fair_window rd rs base span =
-      by_cap f x is (word_at (here x) rs) _ (λ c e. by_view f x is c rights.Window _ (λ v there may. by_holds f x is (fits_in v base span) refusals.Range _ (λ _.
-      by_holds f x is (nat_lt (size f.windows) 256) (refusals.Exhausted Windows) _ (λ _.
+      by_cap no (word_at (here x) rs) _ (λ c e. by_view no f c rights.Window _ (λ v there may. by_holds no (fits_in v base span) refusals.Range _ (λ _.
+      by_holds no (nat_lt (size f.windows) 256) (refusals.Exhausted Windows) _ (λ _.
       record {
         short = refl;
         safe = (tt, ((λ p. refl), (tt, ((λ p. refl), tt))));
@@ -126,13 +129,13 @@ module _ (f : Flat) (x : User) (is : slice_get f.users x.number ≡ Some x) (gro
 
   fair_lookup : (rd rs : ℕ) (name : Name) → Fair f x (outcome f x (asks.Lookup rd rs name))
   fair_lookup rd rs name =
-      by_cap f x is (word_at (here x) rs) _ (λ c e. by_dir f x is c rights.Lookup _ (λ d live may. by_there f x is (named d name) refusals.UnknownName _ (λ en there.
+      by_cap no (word_at (here x) rs) _ (λ c e. by_dir no f c rights.Lookup _ (λ d live may. by_there no (named d name) refusals.UnknownName _ (λ en there.
       word_goes f x is rd (Cap en.cap) _ (λ k same. entry_copy c d name en k live there same (reader f x is rs c e rights.Lookup may (DirName (uid c.uid) name) refl refl)))))
 
   fair_bind : (rs : ℕ) (name : Name) (rv : ℕ) → Fair f x (outcome f x (asks.Bind rs name rv))
   fair_bind rs name rv =
-      by_cap f x is (word_at (here x) rs) _ (λ c e. by_cap f x is (word_at (here x) rv) _ (λ value is_value. by_dir f x is c rights.Bind _ (λ d live may.
-      by_none f x is (barred d.guard.0 (Cap value)) refusals.Guarded _ (λ ok. by_room f x is d name _ (
+      by_cap no (word_at (here x) rs) _ (λ c e. by_cap no (word_at (here x) rv) _ (λ value is_value. by_dir no f c rights.Bind _ (λ d live may.
+      by_none no (barred d.guard.0 (Cap value)) refusals.Guarded _ (λ ok. by_room no d name _ (λ _ _.
       record {
         short = refl;
         safe = (tt, ((λ p. refl), tt));
@@ -148,18 +151,18 @@ module _ (f : Flat) (x : User) (is : slice_get f.users x.number ≡ Some x) (gro
 
   fair_unbind : (rs : ℕ) (name : Name) → Fair f x (outcome f x (asks.Unbind rs name))
   fair_unbind rs name =
-      by_cap f x is (word_at (here x) rs) _ (λ c e. by_dir f x is c rights.Unbind _ (λ d live may. by_there f x is (named d name) refusals.UnknownName _ (λ en there.
-      by_holds f x is (not en.kept) refusals.Distinguished _ (λ _.
+      by_cap no (word_at (here x) rs) _ (λ c e. by_dir no f c rights.Unbind _ (λ d live may. by_there no (named d name) refusals.UnknownName _ (λ en there.
+      by_holds no (not en.kept) refusals.Distinguished _ (λ _.
       record { short = refl; safe = (tt, ((λ p. refl), tt)); lawful = tt; windows = λ w y h. absurd h; objects = λ v y h. absurd h; dirs = λ d rep h. absurd h }))))
 
   fair_list : (rs : ℕ) → Fair f x (outcome f x (asks.List rs))
   fair_list rs =
-      by_cap f x is (word_at (here x) rs) _ (λ c e. by_dir f x is c rights.List _ (λ d live may.
+      by_cap no (word_at (here x) rs) _ (λ c e. by_dir no f c rights.List _ (λ d live may.
       record { short = refl; safe = tt; lawful = tt; windows = λ w y h. absurd h; objects = λ v y h. absurd h; dirs = λ d rep h. absurd h }))
 
   fair_path : (rs : ℕ) → Fair f x (outcome f x (asks.Path rs))
   fair_path rs =
-      by_cap f x is (word_at (here x) rs) _ (λ c e. by_holds f x is (nat_lt (length x.path) 4) (refusals.Exhausted Path) _ (λ _. by_dir f x is c rights.Lookup _ (λ d live may.
+      by_cap no (word_at (here x) rs) _ (λ c e. by_holds no (nat_lt (length x.path) 4) (refusals.Exhausted Path) _ (λ _. by_dir no f c rights.Lookup _ (λ d live may.
       record {
         short = refl;
         safe = tt;
@@ -177,38 +180,13 @@ module _ (f : Flat) (x : User) (is : slice_get f.users x.number ≡ Some x) (gro
       record { from = PathAt x.number i; cap = c; own = own; held = cap_own f x.number x (PathAt x.number i) is own ∙ there; allowed = may; leads = refl } in
       (refl, has_right)
 
-  find_one : (rd : ℕ) (name : Name) (dir : Capability) (later : Outcome) → Fair f x later → (j : ℕ) → slice_get x.path j ≡ Some dir
-      → Fair f x (if_there (at f.dirs dir.uid) later (λ d. if_holds (has dir rights.Lookup) later (if_there (named d name) later (λ e. gives [] rd (Cap e.cap) (by (DirName (uid dir.uid) name) rights.Lookup)))))
-  find_one rd name dir later on j place = by_live (at f.dirs dir.uid) refl
-    where
-      by_entry : (d : Directory) → at f.dirs dir.uid ≡ Some d → has dir rights.Lookup ≡ true → (o : Option Named) → named d name ≡ o
-          → Fair f x (if_there o later (λ e. gives [] rd (Cap e.cap) (by (DirName (uid dir.uid) name) rights.Lookup)))
-      by_entry d live may None there = on
-      by_entry d live may (Some e) there = word_goes f x is rd (Cap e.cap) _ (λ k same. entry_copy dir d name e k live there same (from_path j dir place may name))
-
-      by_right : (d : Directory) → at f.dirs dir.uid ≡ Some d → (b : Bool) → has dir rights.Lookup ≡ b
-          → Fair f x (if_holds b later (if_there (named d name) later (λ e. gives [] rd (Cap e.cap) (by (DirName (uid dir.uid) name) rights.Lookup))))
-      by_right d live false may = on
-      by_right d live true may = by_entry d live may (named d name) refl
-
-      by_live : (o : Option Directory) → at f.dirs dir.uid ≡ o
-          → Fair f x (if_there o later (λ d. if_holds (has dir rights.Lookup) later (if_there (named d name) later (λ e. gives [] rd (Cap e.cap) (by (DirName (uid dir.uid) name) rights.Lookup)))))
-      by_live None live = on
-      by_live (Some d) live = by_right d live (has dir rights.Lookup) refl
-
-  fair_find_in : (rd : ℕ) (name : Name) (path : List Capability) → ((i : ℕ) (c : Capability) → slice_get path i ≡ Some c → (j : ℕ) × (slice_get x.path j ≡ Some c)) → Fair f x (find_in f path rd name)
-  fair_find_in rd name [] from = refused f x is refusals.UnknownName
-  fair_find_in rd name (dir ∷ rest) from =
-      let place = from zero dir refl in
-      find_one rd name dir (find_in f rest rd name) (fair_find_in rd name rest (λ i c e. from (suc i) c e)) place.0 place.1
-
   -- ---- user objects
 
   fair_impl : (rd rt ro : ℕ) → Fair f x (outcome f x (asks.Impl rd rt ro))
   fair_impl rd rt ro =
-      by_cap f x is (word_at (here x) rt) _ (λ t e. by_cap f x is (word_at (here x) ro) _ (λ c _. by_there f x is (at f.types t.uid) (refusals.Absent kinds.Typ) _ (λ _ _.
-      by_holds f x is (has t rights.Impl) (refusals.Lacks rights.Impl) _ (λ may. by_there f x is (at f.objects c.uid) (refusals.Absent kinds.Object) _ (λ o live.
-      by_holds f x is (o.of == t.uid) refusals.WrongType _ (λ same.
+      by_cap no (word_at (here x) rt) _ (λ t e. by_cap no (word_at (here x) ro) _ (λ c _. by_there no (at f.types t.uid) (refusals.Absent kinds.Typ) _ (λ _ _.
+      by_holds no (has t rights.Impl) (refusals.Lacks rights.Impl) _ (λ may. by_there no (at f.objects c.uid) (refusals.Absent kinds.Object) _ (λ o live.
+      by_holds no (o.of == t.uid) refusals.WrongType _ (λ same.
       word_goes f x is rd (Cap (full o.rep)) _ (λ k word. subst (λ (z : Capability). IsCopy f x.number z (ImplOf (uid c.uid)) (Some rights.Impl)) (same_cap (full o.rep) k word)
       (record {
         old = full o.rep;
@@ -228,8 +206,8 @@ module _ (f : Flat) (x : User) (is : slice_get f.users x.number ≡ Some x) (gro
 
   fair_mkseg : (rd rs : ℕ) (name : Name) (size guard : ℕ) → Fair f x (outcome f x (asks.MkSeg rd rs name size guard))
   fair_mkseg rd rs name size guard =
-      by_cap f x is (word_at (here x) rs) _ (λ c e. by_holds f x is (is_length size) refusals.Range _ (λ _. by_make f x is c name _ (λ d live.
-      let both = new_object (f.next + 1) rd None c d name live (omega arith) in
+      by_cap no (word_at (here x) rs) _ (λ c e. by_holds no (is_length size) refusals.Range _ (λ _. by_make no f c name _ (λ p.
+      let both = new_object (f.next + 1) rd None c p.row name p.live (omega arith) in
       record {
         short = refl;
         safe = (omega arith, ((λ p. refl), (tt, ((λ p. refl), (tt, ((λ p. refl), tt))))));
@@ -241,8 +219,8 @@ module _ (f : Flat) (x : User) (is : slice_get f.users x.number ≡ Some x) (gro
 
   fair_mktype : (rd rs : ℕ) (name : Name) → Fair f x (outcome f x (asks.MkType rd rs name))
   fair_mktype rd rs name =
-      by_cap f x is (word_at (here x) rs) _ (λ c e. by_make f x is c name _ (λ d live.
-      let both = new_object (f.next + 1) rd None c d name live (omega arith) in
+      by_cap no (word_at (here x) rs) _ (λ c e. by_make no f c name _ (λ p.
+      let both = new_object (f.next + 1) rd None c p.row name p.live (omega arith) in
       record {
         short = refl;
         safe = (tt, ((λ p. refl), (tt, ((λ p. refl), (tt, ((λ p. refl), tt))))));
@@ -268,8 +246,8 @@ module _ (f : Flat) (x : User) (is : slice_get f.users x.number ≡ Some x) (gro
 
   fair_mkdir : (rd rs : ℕ) (name : Name) (guard : ℕ) → Fair f x (outcome f x (asks.MkDir rd rs name guard))
   fair_mkdir rd rs name guard =
-      by_cap f x is (word_at (here x) rs) _ (λ c e. by_make f x is c name _ (λ d live.
-      let both = new_object (f.next + 1 + 1) rd None c d name live (omega arith) in
+      by_cap no (word_at (here x) rs) _ (λ c e. by_make no f c name _ (λ p.
+      let both = new_object (f.next + 1 + 1) rd None c p.row name p.live (omega arith) in
       record {
         short = refl;
         safe = ((omega arith, ground.objects f.next (omega arith)), ((λ p. refl), (tt, ((λ p. refl), (tt, ((λ p. refl), (tt, ((λ p. refl), tt))))))));
@@ -286,9 +264,9 @@ module _ (f : Flat) (x : User) (is : slice_get f.users x.number ≡ Some x) (gro
 
   fair_mkobj : (rd rt rs : ℕ) (name : Name) (size : ℕ) → Fair f x (outcome f x (asks.MkObj rd rt rs name size))
   fair_mkobj rd rt rs name size =
-      by_cap f x is (word_at (here x) rt) _ (λ t _. by_cap f x is (word_at (here x) rs) _ (λ c e. by_holds f x is (is_length size) refusals.Range _ (λ _.
-      by_object_room f x is _ (by_dir f x is c rights.Create _ (λ d live _. by_there f x is (at f.types t.uid) (refusals.Absent kinds.Typ) _ (λ _ _.
-      by_holds f x is (has t rights.Make) (refusals.Lacks rights.Make) _ (λ _. by_room f x is d name _ (
+      by_cap no (word_at (here x) rt) _ (λ t _. by_cap no (word_at (here x) rs) _ (λ c e. by_holds no (is_length size) refusals.Range _ (λ _.
+      by_object_room no f _ (λ _. by_dir no f c rights.Create _ (λ d live _. by_there no (at f.types t.uid) (refusals.Absent kinds.Typ) _ (λ _ _.
+      by_holds no (has t rights.Make) (refusals.Lacks rights.Make) _ (λ _. by_room no d name _ (λ _ _.
       let both = new_object (f.next + 1 + 1) rd None c d name live (omega arith) in
       record {
         short = refl;
@@ -306,8 +284,8 @@ module _ (f : Flat) (x : User) (is : slice_get f.users x.number ≡ Some x) (gro
 
   fair_mkcode : (rd rs : ℕ) (name : Name) (label rl : ℕ) → Fair f x (outcome f x (asks.MkCode rd rs name label rl))
   fair_mkcode rd rs name label rl =
-      by_cap f x is (word_at (here x) rs) _ (λ c e. by_none f x is (barred 1 (word_at (here x) rl)) refusals.Guarded _ (λ ok. by_make f x is c name _ (λ d live.
-      let both = new_object (f.next + 1) rd (own (reg_place x x.frames rl)) c d name live (omega arith) in
+      by_cap no (word_at (here x) rs) _ (λ c e. by_none no (barred 1 (word_at (here x) rl)) refusals.Guarded _ (λ ok. by_make no f c name _ (λ p.
+      let both = new_object (f.next + 1) rd (own (reg_place x x.frames rl)) c p.row name p.live (omega arith) in
       record {
         short = refl;
         safe = (tt, ((λ p. refl), (tt, ((λ p. refl), (tt, ((λ p. refl), tt))))));
@@ -331,29 +309,29 @@ module _ (f : Flat) (x : User) (is : slice_get f.users x.number ≡ Some x) (gro
   fair_drops kinds.Segment u dir name =
       record { short = refl; safe = (tt, ((λ p. refl), (tt, ((λ p. refl), tt)))); lawful = tt; windows = λ w y h. absurd h; objects = λ v y h. absurd h; dirs = λ d rep h. absurd h }
   fair_drops kinds.Directory u dir name =
-      by_there f x is (at f.dirs u) _ _ (λ d _. by_holds f x is (len d.names == 0) _ _ (λ _.
+      by_there no (at f.dirs u) _ _ (λ d _. by_holds no (len d.names == 0) _ _ (λ _.
       record { short = refl; safe = (tt, ((λ p. refl), (tt, ((λ p. refl), tt)))); lawful = tt; windows = λ w y h. absurd h; objects = λ v y h. absurd h; dirs = λ d rep h. absurd h }))
   fair_drops kinds.Typ u dir name =
-      by_holds f x is (not (has_objects f u)) _ _ (λ _.
+      by_holds no (not (has_objects f u)) _ _ (λ _.
       record { short = refl; safe = (tt, ((λ p. refl), (tt, ((λ p. refl), tt)))); lawful = tt; windows = λ w y h. absurd h; objects = λ v y h. absurd h; dirs = λ d rep h. absurd h })
   fair_drops kinds.Object u dir name =
-      by_there f x is (at f.objects u) _ _ (λ o live.
+      by_there no (at f.objects u) _ _ (λ o live.
       record { short = refl; safe = (ground.apart u o live, ((λ p. refl), (tt, ((λ p. refl), tt)))); lawful = tt; windows = λ w y h. absurd h; objects = λ v y h. absurd h; dirs = λ d rep h. absurd h })
   fair_drops kinds.Code u dir name =
       record { short = refl; safe = (tt, ((λ p. refl), (tt, ((λ p. refl), tt)))); lawful = tt; windows = λ w y h. absurd h; objects = λ v y h. absurd h; dirs = λ d rep h. absurd h }
-  fair_drops kinds.Process u dir name = refused f x is refusals.NotDistinguished
+  fair_drops kinds.Process u dir name = no.refused refusals.NotDistinguished
 
   fair_delete : (rs : ℕ) (name : Name) → Fair f x (outcome f x (asks.Delete rs name))
   fair_delete rs name =
-      by_cap f x is (word_at (here x) rs) _ (λ c e. by_dir f x is c rights.Delete _ (λ d live may. by_there f x is (named d name) refusals.UnknownName _ (λ en there.
-      by_holds f x is en.kept refusals.NotDistinguished _ (λ _. by_there f x is (at f.life en.cap.uid) refusals.NotDistinguished _ (λ kind _. fair_drops kind en.cap.uid c.uid name)))))
+      by_cap no (word_at (here x) rs) _ (λ c e. by_dir no f c rights.Delete _ (λ d live may. by_there no (named d name) refusals.UnknownName _ (λ en there.
+      by_holds no en.kept refusals.NotDistinguished _ (λ _. by_there no (at f.life en.cap.uid) refusals.NotDistinguished _ (λ kind _. fair_drops kind en.cap.uid c.uid name)))))
 
   -- ---- processes and procedure records
 
   fair_send : (rp rv : ℕ) → Fair f x (outcome f x (asks.Send rp rv))
   fair_send rp rv =
-      by_cap f x is (word_at (here x) rp) _ (λ c e. by_there f x is (at f.boxes c.uid) (refusals.Absent kinds.Process) _ (λ box live. by_holds f x is (has c rights.Send) (refusals.Lacks rights.Send) _ (λ _.
-      by_none f x is (barred 1 (word_at (here x) rv)) refusals.Guarded _ (λ ok. by_holds f x is (nat_lt (length box) 8) (refusals.Exhausted Mailbox) _ (λ _.
+      by_cap no (word_at (here x) rp) _ (λ c e. by_there no (at f.boxes c.uid) (refusals.Absent kinds.Process) _ (λ box live. by_holds no (has c rights.Send) (refusals.Lacks rights.Send) _ (λ _.
+      by_none no (barred 1 (word_at (here x) rv)) refusals.Guarded _ (λ ok. by_holds no (nat_lt (length box) 8) (refusals.Exhausted Mailbox) _ (λ _.
       record {
         short = refl;
         safe = (tt, ((λ p. refl), tt));
@@ -373,7 +351,7 @@ module _ (f : Flat) (x : User) (is : slice_get f.users x.number ≡ Some x) (gro
       record { old = k; held = ap (option_and_then (λ (box : List Word). cap_in (word_at box 0))) live ∙ ap cap_in same; same = refl; rights = λ j h. h; read = inr first }
 
   fair_received : (rd : ℕ) (box : List Word) → at f.boxes x.process ≡ Some box → Fair f x (received x.process rd box)
-  fair_received rd [] live = refused f x is refusals.Empty
+  fair_received rd [] live = no.refused refusals.Empty
   fair_received rd (w ∷ rest) live = record {
     short = refl;
     safe = (tt, ((λ p. refl), tt));
@@ -388,9 +366,9 @@ module _ (f : Flat) (x : User) (is : slice_get f.users x.number ≡ Some x) (gro
 
   fair_call : (rp : ℕ) → Fair f x (outcome f x (asks.Call rp))
   fair_call rp =
-      by_cap f x is (word_at (here x) rp) _ (λ c e. by_holds f x is (nat_lt (length x.frames) 4) (refusals.Exhausted Frames) _ (λ _.
-      by_holds f x is (nat_le (x.charge + 16) 4096) (refusals.Exhausted Requests) _ (λ _. by_there f x is (at f.codes c.uid) (refusals.Absent kinds.Code) _ (λ code live.
-      by_holds f x is (has c rights.Enter) (refusals.Lacks rights.Enter) _ (λ may.
+      by_cap no (word_at (here x) rp) _ (λ c e. by_holds no (nat_lt (length x.frames) 4) (refusals.Exhausted Frames) _ (λ _.
+      by_holds no (nat_le (x.charge + 16) 4096) (refusals.Exhausted Requests) _ (λ _. by_there no (at f.codes c.uid) (refusals.Absent kinds.Code) _ (λ code live.
+      by_holds no (has c rights.Enter) (refusals.Lacks rights.Enter) _ (λ may.
       record {
         short = refl;
         safe = tt;
@@ -415,17 +393,17 @@ module _ (f : Flat) (x : User) (is : slice_get f.users x.number ≡ Some x) (gro
   pub fair : (r : Request) → Fair f x (outcome f x r)
   fair (asks.Mint rd) = fair_mint rd
   fair (asks.Restrict rd rs keep) =
-      by_cap f x is (word_at (here x) rs) _ (λ c e. word_goes f x is rd (Cap (restricted c keep.0)) _ (λ k same. restricted_copy rs keep.0 c k e same))
+      by_cap no (word_at (here x) rs) _ (λ c e. word_goes f x is rd (Cap (restricted c keep.0)) _ (λ k same. restricted_copy rs keep.0 c k e same))
   fair (asks.Set rd n) = word_goes f x is rd (Data n) None (λ k same. absurd (none-some k (ap cap_in same)))
   fair (asks.Move rd rs) = word_goes f x is rd (word_at (here x) rs) _ (λ k same. own_copy f x is rs k same)
   fair (asks.Add rd ra rb) =
-      by_data f x is (word_at (here x) ra) _ (λ a. by_data f x is (word_at (here x) rb) _ (λ b. by_holds f x is (nat_lt (a + b) (2 ^ 64)) refusals.Overflow _ (λ _.
+      by_data no (word_at (here x) ra) _ (λ a. by_data no (word_at (here x) rb) _ (λ b. by_holds no (nat_lt (a + b) (2 ^ 64)) refusals.Overflow _ (λ _.
       word_goes f x is rd (Data (a + b)) None (λ k same. absurd (none-some k (ap cap_in same))))))
   fair (asks.Read rd rs n) = fair_read rd rs n
   fair (asks.Write rs n rv) = fair_write rs n rv
   fair (asks.Window rd rs base span) = fair_window rd rs base span
   fair (asks.Length rd rs) =
-      by_cap f x is (word_at (here x) rs) _ (λ c _. by_view f x is c rights.Read _ (λ v _ _. word_goes f x is rd (Data v.len) None (λ k same. absurd (none-some k (ap cap_in same)))))
+      by_cap no (word_at (here x) rs) _ (λ c _. by_view no f c rights.Read _ (λ v _ _. word_goes f x is rd (Data v.len) None (λ k same. absurd (none-some k (ap cap_in same)))))
   fair (asks.Lookup rd rs name) = fair_lookup rd rs name
   fair (asks.Bind rs name rv) = fair_bind rs name rv
   fair (asks.Unbind rs name) = fair_unbind rs name
@@ -438,7 +416,9 @@ module _ (f : Flat) (x : User) (is : slice_get f.users x.number ≡ Some x) (gro
   fair (asks.MkCode rd rs name label rl) = fair_mkcode rd rs name label rl
   fair (asks.Delete rs name) = fair_delete rs name
   fair (asks.Send rp rv) = fair_send rp rv
-  fair (asks.Recv rd) = by_there f x is (at f.boxes x.process) refusals.Empty _ (λ box live. fair_received rd box live)
+  fair (asks.Recv rd) = by_there no (at f.boxes x.process) refusals.Empty _ (λ box live. fair_received rd box live)
   fair (asks.Call rp) = fair_call rp
   fair (asks.Path rs) = fair_path rs
-  fair (asks.Find rd name) = fair_find_in rd name x.path (λ i c e. (i, e))
+  fair (asks.Find rd name) =
+      by_find no f rd name x.path (λ i dir at_i d live may e there.
+      word_goes f x is rd (Cap e.cap) _ (λ k same. entry_copy dir d name e k live there same (from_path i dir at_i may name)))

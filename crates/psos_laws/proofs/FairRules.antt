@@ -1,40 +1,36 @@
 -- Rules for showing that an outcome is fair: refusals, tests, and the landings that requests have.
-use Rattle.std.proofs.Common.{◌≡◌, ◌⊎◌, ℕ, Bool, true, false, ◌&&◌, cond, List, [], ◌∷◌, length, slice_get, nat_lt, Option, Some, None, option_map, option_and_then, refl, ap, subst, ◌∙◌, inl, inr, arith}
+use Rattle.std.proofs.Common.{◌≡◌, ◌⊎◌, ℕ, Bool, true, false, ◌&&◌, cond, List, [], ◌∷◌, length, slice_get, Option, Some, None, option_map, option_and_then, refl, ap, subst, ◌∙◌, inl, inr, arith}
 use Rattle.std.specs.Prelude.{bit_and}
 use Rattle.std.specs.Option.{option_or}
-use Rattle.std.specs.FinMap.{len}
 use Rattle.std.specs.Int.{bit_at}
 use Rattle.std.proofs.lemmas.Option.{same_Some, none-some}
 use Rattle.std.proofs.lemmas.Bool.{eq-eqb, eqb-true}
 use Rattle.std.proofs.lemmas.Nat.Bits.{bit_at_and, bit_at-lt}
-use Rattle.psos_table.specs.Table.{at, size}
+use Rattle.psos_table.specs.Table.{at}
 use Rattle.psos_caps.specs.Capability.{Capability, full}
-use Rattle.psos_text.specs.declared.name.Name.{Name}
 use Rattle.psos_words.specs.declared.word.Word.{Word}
-use Rattle.psos_words.specs.declared.word.Word.TheVariants.{Data, Cap}
+use Rattle.psos_words.specs.declared.word.Word.TheVariants.{Cap}
 use Rattle.psos_words.specs.Words.{word_at}
 use Rattle.psos_words.specs.Guard.{has_bit, missing}
 use Rattle.psos_calls.specs.declared.frame.Frame.{Frame}
 use Rattle.psos_calls.specs.declared.right.Right.{Right}
-use Rattle.psos_calls.specs.declared.right.Right.TheVariants as rights
-use Rattle.psos_calls.specs.declared.refusal.Refusal.{Refusal}
-use Rattle.psos_calls.specs.declared.refusal.Refusal.TheVariants as refusals
 use Rattle.psos_calls.specs.declared.win_row.WinRow.{WinRow}
 use Rattle.psos_calls.specs.Language.Views.{Shape, View, whole, through}
 use Rattle.psos_calls.specs.Language.Capabilities.{uid}
 use Rattle.psos_calls.specs.Language.Rights.{has}
-use Rattle.psos_calls.specs.Language.Tests.{if_there, if_none, if_cap, if_data, if_holds}
+use Rattle.psos_calls.specs.Language.Tests.{if_there}
 use Rattle.psos_calls.specs.Language.User.{User, here, regs_in}
 use Rattle.psos_model.specs.declared.place.Place.{Place}
 use Rattle.psos_model.specs.declared.place.Place.TheVariants.{SegWord}
-use Rattle.psos_model.specs.Flat.{Flat, Segment, Directory, named, flat_shape, flat_shapes, flat_view, words_of}
+use Rattle.psos_model.specs.Flat.{Flat, Segment, flat_shape, flat_shapes, flat_view, words_of}
 use Rattle.psos_model.specs.Flat.Places.{cap_in, cap_at, own_cap, is_own, guard_at, right_of, reg_place}
-use Rattle.psos_model.specs.Answer.Outcomes.{Outcome, Source, refuse, gives, if_view, if_dir, if_room, if_object_room, make_in}
+use Rattle.psos_model.specs.Answer.Outcomes.{Source, gives}
+use Rattle.psos_model.proofs.OutcomeRules.{Refuses}
 use Rattle.psos_laws.specs.Landings.{lands}
 use Rattle.psos_laws.specs.Reads.{Leads, HasRight, MayRead, Contains, IsCopy}
 use Rattle.psos_laws.proofs.Landings.{same_cap}
 use Rattle.psos_laws.proofs.StepLaws.{Fair, Lawful, IsNew, IsCopyFrom, OnlyImpl}
-use Rattle.psos_laws.proofs.StepsShared.{cap_own}
+use Rattle.psos_laws.proofs.UnchangedPlaces.{cap_own}
 
 -- ---- rights and guards
 
@@ -162,46 +158,11 @@ module _ (f : Flat) (x : User) (is : slice_get f.users x.number ≡ Some x) wher
   pub not_rep : (o rep new : ℕ) (p : Place) (source : Option Source) → (new ≡ rep → ⊥) → OnlyImpl o rep (lands p (Cap (full new)) source)
   not_rep o rep new p source apart c e same = absurd (apart (ap (λ (k : Capability). k.uid) (same_cap (full new) c e) ∙ same))
 
-  -- ---- tests
+  -- ---- what makes no change
 
-  pub refused : (r : Refusal) → Fair f x (refuse r)
-  refused r = record { short = refl; safe = tt; lawful = tt; windows = λ w y h. absurd h; objects = λ v y h. absurd h; dirs = λ d rep h. absurd h }
+  pub refused : Refuses (Fair f x)
+  refused = record { refused = λ r. record { short = refl; safe = tt; lawful = tt; windows = λ w y h. absurd h; objects = λ v y h. absurd h; dirs = λ d rep h. absurd h } }
 
   -- a word goes into a register, and no change is made
   pub word_goes : (rd : ℕ) (w : Word) (source : Option Source) → ((c : Capability) → w ≡ Cap c → IsCopyFrom f x.number c source) → Fair f x (gives [] rd w source)
   word_goes rd w source h = record { short = refl; safe = tt; lawful = (in_reg f.next rd w source (λ c e. inr (h c e)), tt); windows = λ w y h. absurd h; objects = λ v y h. absurd h; dirs = λ d rep h. absurd h }
-
-  pub by_cap : (w : Word) (go : Capability → Outcome) → ((c : Capability) → w ≡ Cap c → Fair f x (go c)) → Fair f x (if_cap w (refuse refusals.NotCap) go)
-  by_cap (Data n) go h = refused refusals.NotCap
-  by_cap (Cap c) go h = h c refl
-
-  pub by_data : (w : Word) (go : ℕ → Outcome) → ((n : ℕ) → Fair f x (go n)) → Fair f x (if_data w (refuse refusals.NotData) go)
-  by_data (Data n) go h = h n
-  by_data (Cap c) go h = refused refusals.NotData
-
-  pub by_there : {X : Type 0} (o : Option X) (r : Refusal) (go : X → Outcome) → ((y : X) → o ≡ Some y → Fair f x (go y)) → Fair f x (if_there o (refuse r) go)
-  by_there None r go h = refused r
-  by_there (Some y) r go h = h y refl
-
-  pub by_none : {X : Type 0} (o : Option X) (r : X → Refusal) (go : Outcome) → (o ≡ None → Fair f x go) → Fair f x (if_none o (λ y. refuse (r y)) go)
-  by_none None r go h = h refl
-  by_none (Some y) r go h = refused (r y)
-
-  pub by_holds : (b : Bool) (r : Refusal) (go : Outcome) → (b ≡ true → Fair f x go) → Fair f x (if_holds b (refuse r) go)
-  by_holds true r go h = h refl
-  by_holds false r go h = refused r
-
-  pub by_view : (cap : Capability) (right : Right) (go : View → Outcome) → ((v : View) → flat_view f cap.uid ≡ Some v → has cap right ≡ true → Fair f x (go v)) → Fair f x (if_view f cap right go)
-  by_view cap right go h = by_there (flat_view f cap.uid) _ _ (λ v there. by_holds (has cap right) (refusals.Lacks right) _ (λ may. h v there may))
-
-  pub by_dir : (cap : Capability) (right : Right) (go : Directory → Outcome) → ((d : Directory) → at f.dirs cap.uid ≡ Some d → has cap right ≡ true → Fair f x (go d)) → Fair f x (if_dir f cap right go)
-  by_dir cap right go h = by_there (at f.dirs cap.uid) _ _ (λ d there. by_holds (has cap right) (refusals.Lacks right) _ (λ may. h d there may))
-
-  pub by_room : (d : Directory) (name : Name) (go : Outcome) → Fair f x go → Fair f x (if_room d name go)
-  by_room d name go h = by_none (named d name) (λ _. refusals.NameTaken) _ (λ _. by_holds (nat_lt (len d.names) 127) _ _ (λ _. h))
-
-  pub by_object_room : (go : Outcome) → Fair f x go → Fair f x (if_object_room f go)
-  by_object_room go h = by_holds (nat_lt (size f.life) 512) _ _ (λ _. h)
-
-  pub by_make : (dir : Capability) (name : Name) (go : Outcome) → ((d : Directory) → at f.dirs dir.uid ≡ Some d → Fair f x go) → Fair f x (make_in f dir name go)
-  by_make dir name go h = by_object_room _ (by_dir dir rights.Create _ (λ d there may. by_room d name go (h d there)))

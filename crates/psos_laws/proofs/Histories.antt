@@ -11,10 +11,10 @@ use Rattle.psos_model.specs.Sound.Roles as roles
 use Rattle.psos_model.specs.Run.{run_from}
 use Rattle.psos_model.specs.Sound.Rows.{IsPart}
 use Rattle.psos_model.specs.Sound.{IsSound}
-use Rattle.psos_laws.specs.History.{Event, event_at, past_after}
+use Rattle.psos_laws.specs.History.{Transition, transition_at, past_after}
 use Rattle.psos_laws.specs.SoundParts.{IsSoundPlaces}
 use Rattle.psos_laws.proofs.StepLaws.{Ground}
-use Rattle.psos_laws.proofs.AnswerSteps.{LeadsTo, ground_of, event_is, answer_leads}
+use Rattle.psos_laws.proofs.AnswerSteps.{LeadsTo, ground_of, transition_is, answer_leads}
 
 -- what the laws use of a sound state
 pub record Firm (f : Flat) : Type 0 where
@@ -42,12 +42,12 @@ firm_of s f sound = record {
     not_both u d hidden (inl plain) = false≢true (ap is_hidden (sym plain ∙ hidden))
     not_both u d hidden (inr part) = false≢true (ap is_hidden (sym part.part ∙ hidden))
 
--- from the start each event leads to the state of the next, and the last to this one
-abbrev pub IsLedTo : Flat → List Event → Flat → Type 0
+-- from the start each transition leads to the state of the next, and the last to this one
+abbrev pub IsLedTo : Flat → List Transition → Flat → Type 0
 IsLedTo start [] g = Firm g × (g ≡ start)
 IsLedTo start (e ∷ past) g = LeadsTo e g × Firm g × IsLedTo start past e.flat
 
-pub firm_at : (start : Flat) (past : List Event) (g : Flat) → IsLedTo start past g → Firm g
+pub firm_at : (start : Flat) (past : List Transition) (g : Flat) → IsLedTo start past g → Firm g
 firm_at start [] g led = led.0
 firm_at start (e ∷ past) g led = led.1
 
@@ -56,13 +56,13 @@ abbrev pub KeepsSound : Script → Type 0
 KeepsSound s = (f : Flat) (u : ℕ) → IsSound s f → IsSound s (answer s f u).0
 
 -- an order from a sound state leads to the state of its run
-pub run_led : (s : Script) → KeepsSound s → (start : Flat) (order : List ℕ) (f : Flat) (past : List Event) → IsSound s f → IsLedTo start past f
+pub run_led : (s : Script) → KeepsSound s → (start : Flat) (order : List ℕ) (f : Flat) (past : List Transition) → IsSound s f → IsLedTo start past f
     → IsLedTo start (past_after s f past order) (run_from s f order)
 run_led s keeps start [] f past sound led = led
 run_led s keeps start (u ∷ us) f past sound led =
     let next : IsSound s (answer s f u).0 = keeps f u sound in
-    let before : IsLedTo start past (event_at s f u).flat = subst (IsLedTo start past) (sym (event_is s f u).0) led in
-    run_led s keeps start us (answer s f u).0 (event_at s f u ∷ past) next (answer_leads s f u sound, firm_of s (answer s f u).0 next, before)
+    let before : IsLedTo start past (transition_at s f u).flat = subst (IsLedTo start past) (sym (transition_is s f u).0) led in
+    run_led s keeps start us (answer s f u).0 (transition_at s f u ∷ past) next (answer_leads s f u sound, firm_of s (answer s f u).0 next, before)
 
 -- a sound state leads to itself
 pub start_led : (s : Script) (f : Flat) → IsSound s f → IsLedTo f [] f

@@ -16,14 +16,14 @@ use Rattle.psos_model.specs.Answer.{outcome, answer_to}
 use Rattle.psos_model.specs.Sound.{IsSound}
 use Rattle.psos_model.proofs.AnswerBounds.{users_stay}
 use Rattle.psos_laws.specs.Landings.{Landing, changes_put, effect_puts, end_puts, found, landed, IsOwnThere, IsThere}
-use Rattle.psos_laws.specs.History.{event_by}
+use Rattle.psos_laws.specs.History.{transition_by}
 use Rattle.psos_laws.specs.Laws.{LandingsStay}
 use Rattle.psos_laws.proofs.OwnArrivals.{closing, effect_apart, end_apart}
 use Rattle.psos_laws.proofs.OwnLandings.{after_there}
 use Rattle.psos_laws.proofs.StepLaws.{Fair, first_puts}
-use Rattle.psos_laws.proofs.StepsShared.{shared_apart, set_here, set_apart, cap_own, other_places, not_same}
+use Rattle.psos_laws.proofs.UnchangedPlaces.{shared_apart, set_here, set_apart, cap_own, other_places, not_same}
 use Rattle.psos_laws.proofs.OutcomeSteps.{closed, all_puts, parts}
-use Rattle.psos_laws.proofs.AnswerSteps.{ground_of, event_of, answer_of}
+use Rattle.psos_laws.proofs.AnswerSteps.{ground_of, transition_of, answer_of}
 use Rattle.psos_laws.proofs.FairRequests.{fair}
 use Rattle.psos_laws.proofs.FairLandings.{found_landed, none_landed, changes_there}
 
@@ -91,7 +91,7 @@ module _ (s : Script) (f : Flat) (x : User) (o : Outcome) (is : slice_get f.user
       by_bool false out = at_other out e there
 
 asked : (s : Script) (f : Flat) (u : ℕ) (x : User) (p : Place) (l : Landing) → IsSound s f → slice_get f.users u ≡ Some x → (r : Option Request)
-    → found (event_by s f u x r).landings p ≡ Some l → IsThere (answer_to s f u x r).0 p → cap_at (answer_to s f u x r).0 p ≡ cap_in l.word
+    → found (transition_by s f u x r).landings p ≡ Some l → IsThere (answer_to s f u x r).0 p → cap_at (answer_to s f u x r).0 p ≡ cap_in l.word
 asked s f u x p l sound there None e live = absurd (none-some l e)
 asked s f u x p l sound there (Some r) e live =
     let number : x.number ≡ u = (sound.users u x there).number in
@@ -104,6 +104,6 @@ asked s f u x p l sound there (Some r) e live =
 pub landings_stay : LandingsStay
 landings_stay s f u p l formed sound e live = by_user (slice_get f.users u) refl e live
   where
-    by_user : (o : Option User) → slice_get f.users u ≡ o → found (event_of s f u o).landings p ≡ Some l → IsThere (answer_of s f u o) p → cap_at (answer_of s f u o) p ≡ cap_in l.word
+    by_user : (o : Option User) → slice_get f.users u ≡ o → found (transition_of s f u o).landings p ≡ Some l → IsThere (answer_of s f u o) p → cap_at (answer_of s f u o) p ≡ cap_in l.word
     by_user None there e live = absurd (none-some l e)
     by_user (Some x) there e live = asked s f u x p l sound there (next_request s x) e live

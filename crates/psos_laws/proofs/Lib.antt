@@ -1,11 +1,11 @@
 pub mod SharedRows
 pub mod Homes
 pub mod RolesLife
-pub mod SharedWhole
+pub mod SharedParts
 pub mod SharedCreations
 pub mod SharedDeletions
 pub mod SharedWalk
-pub mod UsersSound
+pub mod UserSoundness
 pub mod RequestsLeft
 pub mod RoomToStep
 pub mod UserProgress
@@ -13,12 +13,12 @@ pub mod AnswerProgress
 pub mod OrderLengths
 pub mod CompleteOrders
 pub mod SharedAnswers
-pub mod SharedSound
+pub mod SoundRuns
 pub mod Landings
 pub mod ChangeArrivals
 pub mod OwnArrivals
 pub mod StepLaws
-pub mod StepsShared
+pub mod UnchangedPlaces
 pub mod OutcomeSteps
 pub mod FairRules
 pub mod FairRequests
@@ -28,7 +28,7 @@ pub mod BootSoundRoles
 pub mod BootSoundRows
 pub mod BootSoundUsers
 pub mod BootSoundPlaces
-pub mod BootSound
+pub mod BootSoundness
 pub mod Histories
 pub mod SoundOrigins
 pub mod Trails
@@ -43,4 +43,4 @@ pub mod BodyArrivals
 pub mod OriginTables
 pub mod WatchedOrigins
 pub mod WatchedRuns
-pub mod BootConfined
+pub mod ProcessConfinement

@@ -21,7 +21,7 @@ use Rattle.psos_model.specs.Flat.Changes.{changed}
 use Rattle.psos_model.specs.Answer.Outcomes.{Source, own}
 use Rattle.psos_laws.specs.declared.origin.Origin.{Origin}
 use Rattle.psos_laws.specs.Landings.{Landing, lands, change_puts, changes_put, end_puts, found, source_after, is_over, outer_place, before_change, before}
-use Rattle.psos_laws.specs.History.{Event, origin_of, origin_by}
+use Rattle.psos_laws.specs.History.{Transition, origin_of, origin_by}
 use Rattle.psos_laws.specs.Arrivals.{Arrival, Arrivals, told, comes, came_by, came_in, came_out, last_to, moved_by, drawn_by, opened_by}
 use Rattle.psos_laws.proofs.StepLaws.{is_making, lands_none, none_land, only_fresh, tells, is_short}
 use Rattle.psos_laws.proofs.ChangeArrivals.{AreSafe}
@@ -200,7 +200,7 @@ with_source None x f = refl
 with_source (Some l) x f = refl
 
 -- requests with one more
-pub told_more : (rs : List Arrivals) (past : List Event) (a : Arrivals) (e : Event) → a.list.items ≡ came_by e.landings → ((p : Place) → moved_by a.drawn p ≡ e.moved p)
+pub told_more : (rs : List Arrivals) (past : List Transition) (a : Arrivals) (e : Transition) → a.list.items ≡ came_by e.landings → ((p : Place) → moved_by a.drawn p ≡ e.moved p)
     → a.next ≡ e.flat.next → length rs ≡ length past → ((p : Place) (c : Capability) → told rs p c ≡ origin_of past p c)
     → (p : Place) (c : Capability) → told (a ∷ rs) p c ≡ origin_of (e ∷ past) p c
 told_more rs past a e list moves next count same p c =

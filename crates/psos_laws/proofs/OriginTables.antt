@@ -25,11 +25,11 @@ use Rattle.psos_model.proofs.FlatStep.{answer_is}
 use Rattle.psos_laws.specs.declared.coming.Coming.{Coming}
 use Rattle.psos_laws.specs.declared.origins.Origins.{Origins}
 use Rattle.psos_laws.specs.Landings.{Landing, changes_put, effect_puts, end_puts, puts, before}
-use Rattle.psos_laws.specs.History.{Event, event_by, event_at, past_after, history, origin_of}
-use Rattle.psos_laws.specs.Arrivals.{told, came_by, came_in, came_out, moved_by, opened_by, IsComing, IsKept, AreFull, AreCallers, Tells}
+use Rattle.psos_laws.specs.History.{Transition, transition_by, transition_at, past_after, history, origin_of}
+use Rattle.psos_laws.specs.Arrivals.{told, came_by, came_in, came_out, moved_by, opened_by, IsComing, AddsArrivals, AreFull, AreCallers, Tells}
 use Rattle.psos_laws.proofs.OwnArrivals.{closing, number_closing, same_ends}
 use Rattle.psos_laws.proofs.StepLaws.{Fair, first_puts}
-use Rattle.psos_laws.proofs.StepsShared.{set_here}
+use Rattle.psos_laws.proofs.UnchangedPlaces.{set_here}
 use Rattle.psos_laws.proofs.FairRequests.{fair}
 use Rattle.psos_laws.proofs.AnswerSteps.{ground_of}
 use Rattle.psos_laws.proofs.RequestsLeft.{has_user}
@@ -82,8 +82,8 @@ module _ (s : Script) (f : Flat) (x : User) (r : Request) where
       ∙ sym (came_append (end_puts s x z.frames first) first))
 
 module _ (s : Script) (w : IsWellFormed s) (f : Flat) (sound : IsSound s f) (u : ℕ) (x : User) (there : slice_get f.users u ≡ Some x) (r : Request) (asks-it : next_request s x ≡ Some r) where
-  event_is : event_at s f u ≡ event_by s f u x (Some r)
-  event_is = ap (λ o. if_there o (record { flat = f; user = u; landings = []; moved = λ p. p }) (λ x. event_by s f u x (next_request s x))) there ∙ ap (event_by s f u x) asks-it
+  transition_is : transition_at s f u ≡ transition_by s f u x (Some r)
+  transition_is = ap (λ o. if_there o (record { flat = f; user = u; landings = []; moved = λ p. p }) (λ x. transition_by s f u x (next_request s x))) there ∙ ap (transition_by s f u x) asks-it
 
   users_are : (answer s f u).0.users ≡ slice_set f.users u (after s x (outcome f x r).effect)
   users_are = ap (λ a. a.0.users) (answer_is s f u x r there asks-it)
@@ -93,8 +93,8 @@ module _ (s : Script) (w : IsWellFormed s) (f : Flat) (sound : IsSound s f) (u :
       let number = (sound.users u x there).number in
       fair f x (ap (slice_get f.users) number ∙ there) (ground_of s f sound) r
 
-  tells_one : (past : List Event) (old new : Origins) (k : Coming) → Tells past f old → IsComing s f u k → IsKept k u (after s x (outcome f x r).effect) old new
-      → Tells (event_at s f u ∷ past) (answer s f u).0 new
+  tells_one : (past : List Transition) (old new : Origins) (k : Coming) → Tells past f old → IsComing s f u k → AddsArrivals k u (after s x (outcome f x r).effect) old new
+      → Tells (transition_at s f u ∷ past) (answer s f u).0 new
   tells_one past old new k tells is kept =
       let y = after s x (outcome f x r).effect in
       let is_list : k.arrivals.list.items ≡ came_by (first_puts f x (outcome f x r)) = is.list x r there asks-it ∙ begun s f x r is_fair in
@@ -117,16 +117,16 @@ module _ (s : Script) (w : IsWellFormed s) (f : Flat) (sound : IsSound s f) (u :
         origins = λ p c.
             ap (λ rs. told (reverse rs) p c) kept.past
             ∙ (ap (λ rs. told rs p c) (reverse-append old.past.items (kept.last ∷ []))
-            ∙ (told_more (reverse old.past.items) past kept.last (event_by s f u x (Some r)) list moves (kept.next ∙ is.next) was tells.origins p c
-            ∙ ap (λ e. origin_of (e ∷ past) p c) (sym event_is)));
+            ∙ (told_more (reverse old.past.items) past kept.last (transition_by s f u x (Some r)) list moves (kept.next ∙ is.next) was tells.origins p c
+            ∙ ap (λ e. origin_of (e ∷ past) p c) (sym transition_is)));
         room = same_room old new k.bodies u k.caller tells.room keeps_any;
         callers = subst (λ us. AreCallers us new.callers.items) (sym users_are)
             (callers_kept f.users u k.caller old.callers.items new.callers.items x keeps (is.caller x there) tells.room (are_full s f w sound) there y (after_in s x (outcome f x r).effect) tells.callers);
       }
 
 -- who has a request left is there, and asks it
-pub tells_more : (s : Script) → IsWellFormed s → (f : Flat) → IsSound s f → (u : ℕ) → IsTrue (has_left s f.users u) → (past : List Event) (old new : Origins) (k : Coming)
-    → Tells past f old → IsComing s f u k → ((y : User) → slice_get (answer s f u).0.users u ≡ Some y → IsKept k u y old new) → Tells (event_at s f u ∷ past) (answer s f u).0 new
+pub tells_more : (s : Script) → IsWellFormed s → (f : Flat) → IsSound s f → (u : ℕ) → IsTrue (has_left s f.users u) → (past : List Transition) (old new : Origins) (k : Coming)
+    → Tells past f old → IsComing s f u k → ((y : User) → slice_get (answer s f u).0.users u ≡ Some y → AddsArrivals k u y old new) → Tells (transition_at s f u ∷ past) (answer s f u).0 new
 tells_more s w f sound u left past old new k tells is kept =
     let has = left_there s f.users u left in
     let x = has.row in
@@ -137,12 +137,12 @@ tells_more s w f sound u left past old new k tells is kept =
 
 -- ---- runs
 
-past_append : (s : Script) (order more : List ℕ) (f : Flat) (past : List Event) → past_after s f past (order ++ more) ≡ past_after s (run_from s f order) (past_after s f past order) more
+past_append : (s : Script) (order more : List ℕ) (f : Flat) (past : List Transition) → past_after s f past (order ++ more) ≡ past_after s (run_from s f order) (past_after s f past order) more
 past_append s [] more f past = refl
-past_append s (u ∷ us) more f past = past_append s us more (answer s f u).0 (event_at s f u ∷ past)
+past_append s (u ∷ us) more f past = past_append s us more (answer s f u).0 (transition_at s f u ∷ past)
 
 -- what is kept is the same
-pub tells_same : (past : List Event) (f g : Flat) (old new : Origins) → g ≡ f → new.past.items ≡ old.past.items → new.callers.items ≡ old.callers.items → Tells past f old → Tells past g new
+pub tells_same : (past : List Transition) (f g : Flat) (old new : Origins) → g ≡ f → new.past.items ≡ old.past.items → new.callers.items ≡ old.callers.items → Tells past f old → Tells past g new
 tells_same past f g old new states pasts callers h = record {
   count = ap length pasts ∙ h.count;
   origins = λ p c. ap (λ rs. told (reverse rs) p c) pasts ∙ h.origins p c;
@@ -157,11 +157,11 @@ tells_as s t order later f o scripts orders h =
 
 -- one request more
 pub tells_step : (s : Script) (order : List ℕ) (f g : Flat) (u : ℕ) (old new : Origins) (k : Coming) → IsWellFormed s → IsSound s f → f ≡ run s order → IsTrue (has_left s f.users u)
-    → g ≡ (answer s f u).0 → Tells (history s order) f old → IsComing s f u k → ((y : User) → slice_get g.users u ≡ Some y → IsKept k u y old new) → Tells (history s (order ++ u ∷ [])) g new
+    → g ≡ (answer s f u).0 → Tells (history s order) f old → IsComing s f u k → ((y : User) → slice_get g.users u ≡ Some y → AddsArrivals k u y old new) → Tells (history s (order ++ u ∷ [])) g new
 tells_step s order f g u old new k w sound state left states tells is kept =
     let more = tells_more s w f sound u left (history s order) old new k tells is (λ y e. kept y (ap (λ (h : Flat). slice_get h.users u) states ∙ e)) in
-    let past : history s (order ++ u ∷ []) ≡ event_at s f u ∷ history s order = past_append s order (u ∷ []) (boot s) [] ∙ ap (λ h. event_at s h u ∷ history s order) (sym state) in
-    subst (λ h. Tells h g new) (sym past) (subst (λ h. Tells (event_at s f u ∷ history s order) h new) (sym states) more)
+    let past : history s (order ++ u ∷ []) ≡ transition_at s f u ∷ history s order = past_append s order (u ∷ []) (boot s) [] ∙ ap (λ h. transition_at s h u ∷ history s order) (sym state) in
+    subst (λ h. Tells h g new) (sym past) (subst (λ h. Tells (transition_at s f u ∷ history s order) h new) (sym states) more)
 
 -- no request
 pub tells_boot : (s : Script) (f : Flat) (o : Origins) → ((u : ℕ) (x : User) → slice_get f.users u ≡ Some x → x.frames ≡ []) → o.past.items ≡ [] → length o.callers.items ≡ 32 → Tells (history s []) f o

@@ -22,7 +22,7 @@ use Rattle.psos_laws.proofs.Landings.{Within, landed_append, Landed, landed_foun
 use Rattle.psos_laws.proofs.ChangeArrivals.{AreSafe, arrives_all}
 use Rattle.psos_laws.proofs.OwnArrivals.{closing, closing_in, after_in, effect_apart, end_apart}
 use Rattle.psos_laws.proofs.StepLaws.{Step, Fair, Ground, Lawful, IsNew, IsCopyFrom, OnlyImpl, NewRep, first_puts}
-use Rattle.psos_laws.proofs.StepsShared.{next_later, guards_stay, stores_stay, own_stays, impl_stays, before_own, shared_apart, dirs_from, objects_from, windows_from, set_here, set_apart, cap_own, other_places}
+use Rattle.psos_laws.proofs.UnchangedPlaces.{next_later, guards_stay, stores_stay, own_stays, impl_stays, before_own, shared_apart, dirs_from, objects_from, windows_from, set_here, set_apart, cap_own, other_places}
 
 -- the state after the request of a user closes with an outcome, and all that it puts
 abbrev pub closed : Script → Flat → User → Outcome → Flat

@@ -18,7 +18,7 @@ use Rattle.psos_model.specs.Answer.Outcomes.{Source}
 use Rattle.psos_model.specs.Answer.{answer}
 use Rattle.psos_model.specs.Sound.{IsSound}
 use Rattle.psos_laws.specs.Landings.{Landing, found}
-use Rattle.psos_laws.specs.History.{event_at}
+use Rattle.psos_laws.specs.History.{transition_at}
 use Rattle.psos_laws.specs.Reads.{MayRead}
 use Rattle.psos_laws.specs.SoundParts.{IsSoundPlaces}
 use Rattle.psos_laws.proofs.Landings.{landed_found, each_found}
@@ -136,4 +136,4 @@ module _ (f g : Flat) (u : ℕ) (ls : List Landing) (moved : Place → Place) (s
 pub places_kept : (s : Script) (f : Flat) (u : ℕ) → IsWellFormed s → IsSound s f → IsSoundPlaces (answer s f u).0
 places_kept s f u formed sound =
     let places : IsSoundPlaces f = record { below = sound.below; guarded = sound.guarded; hidden = sound.hidden } in
-    keeps_places f (answer s f u).0 u (event_at s f u).landings (event_at s f u).moved (answer_steps s f u sound) (ground_of s f sound) places
+    keeps_places f (answer s f u).0 u (transition_at s f u).landings (transition_at s f u).moved (answer_steps s f u sound) (ground_of s f sound) places

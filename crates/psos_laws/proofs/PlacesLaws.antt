@@ -1,5 +1,5 @@
 -- The laws of places, of one answer and of whole runs.
-use Rattle.std.proofs.Common.{◌≡◌, ◌⊎◌, inl, inr, ℕ, zero, suc, ◌≤◌, List, [], ◌∷◌, ◌++◌, slice_get, Option, Some, None, refl, sym, subst}
+use Rattle.std.proofs.Common.{◌≡◌, ◌⊎◌, inl, inr, ℕ, zero, suc, ◌≤◌, List, [], ◌∷◌, ◌++◌, slice_get, Option, Some, None, sym, subst}
 use Rattle.std.specs.List.{AllByRecursion}
 use Rattle.std.proofs.lemmas.Option.{same_Some, none-some}
 use Rattle.psos_caps.specs.Capability.{Capability}
@@ -11,7 +11,7 @@ use Rattle.psos_model.specs.Run.{run_from}
 use Rattle.psos_model.specs.Sound.{IsSound}
 use Rattle.psos_model.proofs.Orders.{run_append}
 use Rattle.psos_laws.specs.Landings.{Landing}
-use Rattle.psos_laws.specs.History.{event_at, history_from}
+use Rattle.psos_laws.specs.History.{transition_at, history_from}
 use Rattle.psos_laws.specs.Trails.{IsConfined}
 use Rattle.psos_laws.specs.Laws.{IsLawful, LandingsAreAll, UnreadIsNew}
 use Rattle.psos_laws.proofs.StepLaws.{Lawful, IsNew, IsCopyFrom}
@@ -38,12 +38,12 @@ new_from f next u cap (Some q) none (inr copy) = absurd (none-some q (sym none))
 pub unread_is_new : UnreadIsNew
 unread_is_new s f u i l cap formed sound at_i word none =
     let st = answer_steps s f u sound in
-    new_from f (answer s f u).0.next u cap l.source none (each_at (Lawful f (answer s f u).0.next u) (event_at s f u).landings i l st.lawful at_i cap word).from
+    new_from f (answer s f u).0.next u cap l.source none (each_at (Lawful f (answer s f u).0.next u) (transition_at s f u).landings i l st.lawful at_i cap word).from
 
 -- what is confined in a sound state is confined after the answer
 pub confined_stays_once : (s : Script) (f : Flat) (u v x m : ℕ) → IsSound s f → IsConfined f v x m → IsConfined (answer s f u).0 v x m
 confined_stays_once s f u v x m sound h =
-    keeps_confined f (answer s f u).0 u (event_at s f u).landings (event_at s f u).moved (answer_steps s f u sound) (ground_of s f sound) v x m h
+    keeps_confined f (answer s f u).0 u (transition_at s f u).landings (transition_at s f u).moved (answer_steps s f u sound) (ground_of s f sound) v x m h
 
 -- ---- whole runs from a sound start, where each answer keeps a state sound
 

@@ -6,7 +6,7 @@ use Rattle.psos_model.specs.Run.{run_from}
 use Rattle.psos_model.specs.Sound.{IsSound}
 use Rattle.psos_laws.specs.History.{history_from}
 use Rattle.psos_laws.specs.Laws.{IsLawful, RunsAreLawful, ConfinedStays}
-use Rattle.psos_laws.proofs.SharedSound.{answers_kept}
+use Rattle.psos_laws.proofs.SoundRuns.{answers_kept}
 use Rattle.psos_laws.proofs.Histories.{KeepsSound}
 use Rattle.psos_laws.proofs.PlacesLaws as laws
 

@@ -1,7 +1,7 @@
 -- A user object that is made and told of keeps what users share sound.
 use Rattle.std.proofs.Common.{◌≡◌, ℕ, ◌+◌, ◌<◌, ◌≤◌, true, cond, eqb, List, [], ◌∷◌, length, Option, Some, None, refl, sym, ap, ◌∙◌, inl, inr, arith}
 use Rattle.std.specs.Prelude.{IsSome, is_some}
-use Rattle.std.specs.FinMap.{len, empty, get-empty}
+use Rattle.std.specs.FinMap.{empty, get-empty}
 use Rattle.std.proofs.lemmas.Bool.{cases_eq, false≢true, eq-eqb, ne_eqb}
 use Rattle.psos_table.specs.Table.{Table, at, put, size}
 use Rattle.psos_table.proofs.Tables.{at-put_here, at-put_apart}
@@ -14,16 +14,17 @@ use Rattle.psos_calls.specs.Language.Script.{Script}
 use Rattle.psos_calls.specs.Language.User.{User}
 use Rattle.psos_calls.specs.Language.Names.{name_cmp}
 use Rattle.psos_model.specs.declared.change.Change.TheVariants.{Fresh, Register, MakeSegment, MakeType, MakeObject, MakeDirectory, MakeCode}
-use Rattle.psos_model.specs.Flat.{Flat, Object, Directory, named}
+use Rattle.psos_model.specs.Flat.{Flat, Object, Directory}
 use Rattle.psos_model.specs.Flat.Changes.{changed_all, new_segment}
 use Rattle.psos_model.specs.Sound.Roles.{Role, PartOf, HiddenIn, IsUserObject, IsBootDirectory}
 use Rattle.psos_model.specs.Sound.Roles as roles
 use Rattle.psos_model.specs.Sound.Rows.{IsGuard}
+use Rattle.psos_model.proofs.OutcomeRules.{HasPlace}
 use Rattle.psos_laws.specs.SoundParts.{IsSoundShared}
 use Rattle.psos_laws.proofs.SharedRows.{segment_rows, type_rows, object_rows, directory_rows, code_rows}
 use Rattle.psos_laws.proofs.Homes.{name_in}
 use Rattle.psos_laws.proofs.RolesLife.{alike, alike_none, kind_of, stays, stays_put, boots_on, boot_below, user_below}
-use Rattle.psos_laws.proofs.SharedWhole.{Whole, Between, whole_raised, whole_register, shared_of}
+use Rattle.psos_laws.proofs.SharedParts.{Whole, Between, whole_raised, whole_register, shared_of}
 
 -- ---- between the making and the telling
 
@@ -121,14 +122,6 @@ pub with_at_apart : {X : Type 0} (old : ℕ → X) (k : ℕ) (x : X) (v : ℕ) �
 with_at_apart old k x v off = ap (λ b. cond b x (old v)) (ne_eqb v k off)
 
 -- ---- what a request that makes has seen
-
--- one more user object fits, with its entry under this name in this directory, which is live
-pub record HasPlace (f : Flat) (d : ℕ) (name : Name) : Type 0 where
-  pub row : Directory
-  pub live : at f.dirs d ≡ Some row
-  pub none : named row name ≡ None
-  pub room : len row.names < 127
-  pub few : size f.life < 512
 
 -- a row that is not there
 absent : {X : Type 0} (n : ℕ) (t : Table X) → ((u : ℕ) (x : X) → at t u ≡ Some x → u < n) → (k : ℕ) → n ≤ k → at t k ≡ None

@@ -23,7 +23,7 @@ use Rattle.psos_laws.specs.SoundParts.{IsSoundShared}
 use Rattle.psos_laws.proofs.SharedRows.{Rows, segment_gone_rows, object_gone_rows, type_gone_rows, code_gone_rows, directory_gone_rows}
 use Rattle.psos_laws.proofs.Homes.{name_in}
 use Rattle.psos_laws.proofs.RolesLife.{alike, alike_none, kind_of, user_kind, stays, stays_without, boots_on}
-use Rattle.psos_laws.proofs.SharedWhole.{Whole, Between, whole_raised, whole_unregister, shared_of}
+use Rattle.psos_laws.proofs.SharedParts.{Whole, Between, whole_raised, whole_unregister, shared_of}
 
 -- a row that is gone is not there
 gone : {X : Type 0} (t : Table X) (k : ℕ) → IsSome (at (without t k) k) → ⊥

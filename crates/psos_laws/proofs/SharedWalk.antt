@@ -1,5 +1,5 @@
 -- Every outcome keeps what users share sound.
-use Rattle.std.proofs.Common.{◌≡◌, ℕ, zero, suc, ◌+◌, ◌<◌, ◌≤◌, ◌==◌, Bool, true, false, not, List, [], ◌∷◌, length, nat_lt, nat_le, Option, Some, None, refl, sym, ap, subst, ◌∙◌, arith}
+use Rattle.std.proofs.Common.{◌≡◌, ℕ, zero, suc, ◌+◌, ◌<◌, ◌≤◌, ◌==◌, true, not, List, [], ◌∷◌, length, nat_lt, nat_le, Option, Some, None, refl, sym, ap, subst, ◌∙◌, arith}
 use Rattle.std.specs.Prelude.{is_some, ◌^◌}
 use Rattle.std.specs.Option.{option_map, option_and_then, option_or}
 use Rattle.std.specs.Int.RustNames.{bit_or}
@@ -7,17 +7,14 @@ use Rattle.std.specs.FinMap.{len}
 use Rattle.std.proofs.lemmas.Bool.{and_parts, not-true, ltb-true, leb-true, eqb-true}
 use Rattle.std.proofs.lemmas.Option.{same_Some, none-some}
 use Rattle.psos_table.specs.Table.{at, size}
-use Rattle.psos_caps.specs.Capability.{Capability}
 use Rattle.psos_text.specs.declared.name.Name.{Name}
 use Rattle.psos_words.specs.declared.word.Word.{Word}
-use Rattle.psos_words.specs.declared.word.Word.TheVariants.{Data, Cap}
+use Rattle.psos_words.specs.declared.word.Word.TheVariants.{Cap}
 use Rattle.psos_words.specs.Words.{word_at}
 use Rattle.psos_words.specs.Guard.{barred}
 use Rattle.psos_calls.specs.declared.kind.Kind.{Kind}
 use Rattle.psos_calls.specs.declared.kind.Kind.TheVariants as kinds
-use Rattle.psos_calls.specs.declared.right.Right.{Right}
 use Rattle.psos_calls.specs.declared.right.Right.TheVariants as rights
-use Rattle.psos_calls.specs.declared.refusal.Refusal.{Refusal}
 use Rattle.psos_calls.specs.declared.refusal.Refusal.TheVariants as refusals
 use Rattle.psos_calls.specs.declared.tab.Tab.TheVariants.{Windows, Path, Mailbox, Frames, Requests}
 use Rattle.psos_calls.specs.declared.win_row.WinRow.{WinRow}
@@ -26,7 +23,6 @@ use Rattle.psos_calls.specs.declared.request.Request.TheVariants as asks
 use Rattle.psos_calls.specs.Language.Request.{InRange}
 use Rattle.psos_calls.specs.Language.Rights.{has}
 use Rattle.psos_calls.specs.Language.Script.{Script}
-use Rattle.psos_calls.specs.Language.Tests.{if_there, if_none, if_cap, if_data, if_holds}
 use Rattle.psos_calls.specs.Language.User.{User, here}
 use Rattle.psos_calls.specs.Language.Views.{View, whole, through, fits_in, part_of}
 use Rattle.psos_calls.specs.Language.Stores.{is_length}
@@ -35,60 +31,20 @@ use Rattle.psos_model.specs.Flat.{Flat, Segment, Directory, Named, named, flat_v
 use Rattle.psos_model.specs.declared.change.Change.TheVariants.{Fresh, MakeWindow, Unregister}
 use Rattle.psos_model.specs.Flat.Changes.{changed_all, kept_entry}
 use Rattle.psos_model.specs.Sound.Kept.{entry_in}
-use Rattle.psos_model.specs.Answer.Outcomes.{Outcome, Source, refuse, gives, if_view, if_dir, if_room, if_object_room, make_in}
-use Rattle.psos_model.specs.Answer.Directories.{find_in}
+use Rattle.psos_model.specs.Answer.Outcomes.{Outcome, Source, gives}
 use Rattle.psos_model.specs.Answer.Objects.{has_objects, drops}
 use Rattle.psos_model.specs.Answer.Processes.{received}
 use Rattle.psos_model.specs.Answer.{outcome}
 use Rattle.psos_model.specs.Sound.Roles.{Role}
 use Rattle.psos_model.specs.Sound.Roles as roles
 use Rattle.psos_model.specs.Sound.Rows.{IsGuard}
+use Rattle.psos_model.proofs.OutcomeRules.{Refuses, by_cap, by_data, by_there, by_none, by_holds, by_view, by_dir, by_room, by_object_room, by_make, by_find}
 use Rattle.psos_laws.specs.SoundParts.{IsSoundShared}
 use Rattle.psos_laws.proofs.SharedRows.{Rows}
 use Rattle.psos_laws.proofs.Homes.{name_in}
-use Rattle.psos_laws.proofs.SharedWhole.{Whole, whole_of, shared_of, whole_raised, whole_word, whole_window, whole_post, whole_draw, whole_bind, whole_unbind}
-use Rattle.psos_laws.proofs.SharedCreations.{HasPlace, with_at, with_at_here, with_at_apart, mkseg_sound, mktype_sound, mkcode_sound, mkobj_sound, mkdir_sound}
+use Rattle.psos_laws.proofs.SharedParts.{Whole, whole_of, shared_of, whole_raised, whole_word, whole_window, whole_post, whole_draw, whole_bind, whole_unbind}
+use Rattle.psos_laws.proofs.SharedCreations.{with_at, with_at_here, with_at_apart, mkseg_sound, mktype_sound, mkcode_sound, mkobj_sound, mkdir_sound}
 use Rattle.psos_laws.proofs.SharedDeletions.{segment_gone_sound, type_gone_sound, code_gone_sound, object_gone_sound, directory_gone_sound}
-
--- ---- a refusal, or what goes on with what was seen
-
-module _ (P : Outcome → Type 0) (refused : (r : Refusal) → P (refuse r)) where
-  by_cap : (w : Word) (go : Capability → Outcome) → ((c : Capability) → P (go c)) → P (if_cap w (refuse refusals.NotCap) go)
-  by_cap (Data n) go h = refused refusals.NotCap
-  by_cap (Cap c) go h = h c
-
-  by_data : (w : Word) (go : ℕ → Outcome) → ((n : ℕ) → P (go n)) → P (if_data w (refuse refusals.NotData) go)
-  by_data (Data n) go h = h n
-  by_data (Cap c) go h = refused refusals.NotData
-
-  by_there : {X : Type 0} (o : Option X) (r : Refusal) (go : X → Outcome) → ((x : X) → o ≡ Some x → P (go x)) → P (if_there o (refuse r) go)
-  by_there None r go h = refused r
-  by_there (Some x) r go h = h x refl
-
-  by_none : {X : Type 0} (o : Option X) (r : X → Refusal) (go : Outcome) → (o ≡ None → P go) → P (if_none o (λ x. refuse (r x)) go)
-  by_none None r go h = h refl
-  by_none (Some x) r go h = refused (r x)
-
-  by_holds : (b : Bool) (r : Refusal) (go : Outcome) → (b ≡ true → P go) → P (if_holds b (refuse r) go)
-  by_holds true r go h = h refl
-  by_holds false r go h = refused r
-
-  by_view : (f : Flat) (cap : Capability) (right : Right) (go : View → Outcome) → ((v : View) → flat_view f cap.uid ≡ Some v → P (go v)) → P (if_view f cap right go)
-  by_view f cap right go h = by_there (flat_view f cap.uid) _ _ (λ v e. by_holds (has cap right) (refusals.Lacks right) _ (λ _. h v e))
-
-  by_dir : (f : Flat) (cap : Capability) (right : Right) (go : Directory → Outcome) → ((d : Directory) → at f.dirs cap.uid ≡ Some d → P (go d)) → P (if_dir f cap right go)
-  by_dir f cap right go h = by_there (at f.dirs cap.uid) _ _ (λ d e. by_holds (has cap right) (refusals.Lacks right) _ (λ _. h d e))
-
-  by_room : (d : Directory) (name : Name) (go : Outcome) → (named d name ≡ None → len d.names < 127 → P go) → P (if_room d name go)
-  by_room d name go h = by_none (named d name) (λ _. refusals.NameTaken) _ (λ none. by_holds (nat_lt (len d.names) 127) _ _ (λ room. h none (ltb-true (len d.names) 127 room)))
-
-  by_object_room : (f : Flat) (go : Outcome) → (size f.life < 512 → P go) → P (if_object_room f go)
-  by_object_room f go h = by_holds (nat_lt (size f.life) 512) _ _ (λ few. h (ltb-true (size f.life) 512 few))
-
-  by_make : (f : Flat) (dir : Capability) (name : Name) (go : Outcome) → (HasPlace f dir.uid name → P go) → P (make_in f dir name go)
-  by_make f dir name go h =
-      by_object_room f _ (λ few. by_dir f dir rights.Create _ (λ d live. by_room d name go (λ none room.
-      h (record { row = d; live = live; none = none; room = room; few = few }))))
 
 -- ---- what was seen
 
@@ -152,8 +108,8 @@ module _ (s : Script) (f : Flat) (h : IsSoundShared s f) where
   nothing : (us : List User) → IsSoundShared s (record f { users = us })
   nothing us = shared_of s h.role h.home (record f { users = us }) (with_users us)
 
-  refused : (r : Refusal) → Keeps (refuse r)
-  refused r = nothing
+  no : Refuses Keeps
+  no = record { refused = λ r. nothing }
 
   -- a word goes, and nothing is changed
   plain : (rd : ℕ) (word : Word) (source : Option Source) → Keeps (gives [] rd word source)
@@ -187,102 +143,84 @@ module _ (s : Script) (f : Flat) (h : IsSoundShared s f) where
   stands : (d : ℕ) (x : Directory) (name : Name) (e : Named) → at f.dirs d ≡ Some x → named x name ≡ Some e → entry_in f d name ≡ Some e
   stands d x name e live there = ap (λ (o : Option Directory). name_in o name) live ∙ there
 
-  by_entry : (later : Outcome) → Keeps later → (o : Option Named) (go : Named → Outcome) → ((e : Named) → Keeps (go e)) → Keeps (if_there o later go)
-  by_entry later k None go g = k
-  by_entry later k (Some e) go g = g e
-
-  by_right : (later : Outcome) → Keeps later → (b : Bool) (go : Outcome) → Keeps go → Keeps (if_holds b later go)
-  by_right later k false go g = k
-  by_right later k true go g = g
-
-  by_live : (later : Outcome) → Keeps later → (o : Option Directory) (go : Directory → Outcome) → ((d : Directory) → Keeps (go d)) → Keeps (if_there o later go)
-  by_live later k None go g = k
-  by_live later k (Some d) go g = g d
-
-  by_find : (path : List Capability) (rd : ℕ) (name : Name) → Keeps (find_in f path rd name)
-  by_find [] rd name = nothing
-  by_find (dir ∷ rest) rd name =
-      let later = by_find rest rd name in
-      by_live _ later (at f.dirs dir.uid) _ (λ d. by_right _ later (has dir rights.Lookup) _ (by_entry _ later (named d name) _ (λ e. nothing)))
-
   by_received : (process rd : ℕ) (box : List Word) → Keeps (received process rd box)
   by_received process rd [] = nothing
   by_received process rd (word ∷ rest) = λ us. shared_of s h.role h.home _ (whole_draw s h.role h.home (record f { users = us }) (with_users us) process)
 
   dropped : (kind : Kind) (u d : ℕ) (name : Name) → entry_in f d name ≡ Some (kept_entry u) → at f.life u ≡ Some kind → Keeps (drops f kind u (Unregister u d name ∷ []))
   dropped kinds.Segment u d name there told = λ us. segment_gone_sound s h.role h.home f w us u d name there told
-  dropped kinds.Directory u d name there told = by_there Keeps refused (at f.dirs u) refusals.NotEmpty _ (λ x live. by_holds Keeps refused (len x.names == 0) refusals.NotEmpty _ (λ bare us.
+  dropped kinds.Directory u d name there told = by_there no (at f.dirs u) refusals.NotEmpty _ (λ x live. by_holds no (len x.names == 0) refusals.NotEmpty _ (λ bare us.
       directory_gone_sound s h.role h.home f w us u d name there told x live (eqb-true (len x.names) 0 bare)))
-  dropped kinds.Typ u d name there told = by_holds Keeps refused (not (has_objects f u)) refusals.NotEmpty _ (λ none us.
+  dropped kinds.Typ u d name there told = by_holds no (not (has_objects f u)) refusals.NotEmpty _ (λ none us.
       type_gone_sound s h.role h.home f w us u d name there told (not-true (has_objects f u) none))
-  dropped kinds.Object u d name there told = by_there Keeps refused (at f.objects u) refusals.NotEmpty _ (λ o live us. object_gone_sound s h.role h.home f w us u d name there told o live)
+  dropped kinds.Object u d name there told = by_there no (at f.objects u) refusals.NotEmpty _ (λ o live us. object_gone_sound s h.role h.home f w us u d name there told o live)
   dropped kinds.Code u d name there told = λ us. code_gone_sound s h.role h.home f w us u d name there told
   dropped kinds.Process u d name there told = nothing
 
   pub keeps : (x : User) (r : Request) → InRange (length s.codes) r → Keeps (outcome f x r)
   keeps x (asks.Mint rd) range = minted
-  keeps x (asks.Restrict rd rs keep) range = by_cap Keeps refused (word_at (here x) rs) _ (λ c. nothing)
+  keeps x (asks.Restrict rd rs keep) range = by_cap no (word_at (here x) rs) _ (λ c _. nothing)
   keeps x (asks.Set rd n) range = nothing
   keeps x (asks.Move rd rs) range = nothing
   keeps x (asks.Add rd ra rb) range =
-      by_data Keeps refused (word_at (here x) ra) _ (λ a. by_data Keeps refused (word_at (here x) rb) _ (λ b. by_holds Keeps refused (nat_lt (a + b) (2 ^ 64)) refusals.Overflow _ (λ _. nothing)))
+      by_data no (word_at (here x) ra) _ (λ a. by_data no (word_at (here x) rb) _ (λ b. by_holds no (nat_lt (a + b) (2 ^ 64)) refusals.Overflow _ (λ _. nothing)))
   keeps x (asks.Read rd rs n) range =
-      by_cap Keeps refused (word_at (here x) rs) _ (λ c. by_view Keeps refused f c rights.Read _ (λ v _. by_holds Keeps refused (nat_lt n v.len) refusals.Range _ (λ _. nothing)))
+      by_cap no (word_at (here x) rs) _ (λ c _. by_view no f c rights.Read _ (λ v _ _. by_holds no (nat_lt n v.len) refusals.Range _ (λ _. nothing)))
   keeps x (asks.Write rs n rv) range =
-      by_cap Keeps refused (word_at (here x) rs) _ (λ c. by_view Keeps refused f c rights.Write _ (λ v _. by_holds Keeps refused (nat_lt n v.len) refusals.Range _ (λ _.
-      by_none Keeps refused (barred v.guard.0 (word_at (here x) rv)) refusals.Guarded _ (λ _ us.
+      by_cap no (word_at (here x) rs) _ (λ c _. by_view no f c rights.Write _ (λ v _ _. by_holds no (nat_lt n v.len) refusals.Range _ (λ _.
+      by_none no (barred v.guard.0 (word_at (here x) rv)) refusals.Guarded _ (λ _ us.
       shared_of s h.role h.home _ (whole_word s h.role h.home (record f { users = us }) (with_users us) v.seg (v.base + n) (word_at (here x) rv))))))
   keeps x (asks.Window rd rs base span) range =
-      by_cap Keeps refused (word_at (here x) rs) _ (λ c. by_view Keeps refused f c rights.Window _ (λ v found. by_holds Keeps refused (fits_in v base span) refusals.Range _ (λ fits.
-      by_holds Keeps refused (nat_lt (size f.windows) 256) (refusals.Exhausted Windows) _ (λ room.
+      by_cap no (word_at (here x) rs) _ (λ c _. by_view no f c rights.Window _ (λ v found _. by_holds no (fits_in v base span) refusals.Range _ (λ fits.
+      by_holds no (nat_lt (size f.windows) 256) (refusals.Exhausted Windows) _ (λ room.
       windowed v base span (sees s h.role f w.rows c.uid v found) fits (ltb-true (size f.windows) 256 room)))))
-  keeps x (asks.Length rd rs) range = by_cap Keeps refused (word_at (here x) rs) _ (λ c. by_view Keeps refused f c rights.Read _ (λ v _. nothing))
+  keeps x (asks.Length rd rs) range = by_cap no (word_at (here x) rs) _ (λ c _. by_view no f c rights.Read _ (λ v _ _. nothing))
   keeps x (asks.Lookup rd rs name) range =
-      by_cap Keeps refused (word_at (here x) rs) _ (λ c. by_dir Keeps refused f c rights.Lookup _ (λ d _. by_there Keeps refused (named d name) refusals.UnknownName _ (λ e _. nothing)))
+      by_cap no (word_at (here x) rs) _ (λ c _. by_dir no f c rights.Lookup _ (λ d _ _. by_there no (named d name) refusals.UnknownName _ (λ e _. nothing)))
   keeps x (asks.Bind rs name rv) range =
-      by_cap Keeps refused (word_at (here x) rs) _ (λ c. by_cap Keeps refused (word_at (here x) rv) _ (λ v. by_dir Keeps refused f c rights.Bind _ (λ d live.
-      by_none Keeps refused (barred d.guard.0 (Cap v)) refusals.Guarded _ (λ _. by_room Keeps refused d name _ (λ none room us.
+      by_cap no (word_at (here x) rs) _ (λ c _. by_cap no (word_at (here x) rv) _ (λ v _. by_dir no f c rights.Bind _ (λ d live _.
+      by_none no (barred d.guard.0 (Cap v)) refusals.Guarded _ (λ _. by_room no d name _ (λ none room us.
       shared_of s h.role h.home _ (whole_bind s h.role h.home (record f { users = us }) (with_users us) c.uid name v d live none room))))))
   keeps x (asks.Unbind rs name) range =
-      by_cap Keeps refused (word_at (here x) rs) _ (λ c. by_dir Keeps refused f c rights.Unbind _ (λ d live. by_there Keeps refused (named d name) refusals.UnknownName _ (λ e there.
-      by_holds Keeps refused (not e.kept) refusals.Distinguished _ (λ free us.
+      by_cap no (word_at (here x) rs) _ (λ c _. by_dir no f c rights.Unbind _ (λ d live _. by_there no (named d name) refusals.UnknownName _ (λ e there.
+      by_holds no (not e.kept) refusals.Distinguished _ (λ free us.
       shared_of s h.role h.home _ (whole_unbind s h.role h.home (record f { users = us }) (with_users us) c.uid name e (stands c.uid d name e live there) (not-true e.kept free))))))
-  keeps x (asks.List rs) range = by_cap Keeps refused (word_at (here x) rs) _ (λ c. by_dir Keeps refused f c rights.List _ (λ d _. nothing))
+  keeps x (asks.List rs) range = by_cap no (word_at (here x) rs) _ (λ c _. by_dir no f c rights.List _ (λ d _ _. nothing))
   keeps x (asks.Impl rd rt ro) range =
-      by_cap Keeps refused (word_at (here x) rt) _ (λ c. by_cap Keeps refused (word_at (here x) ro) _ (λ on. by_there Keeps refused (at f.types c.uid) (refusals.Absent kinds.Typ) _ (λ _ _.
-      by_holds Keeps refused (has c rights.Impl) (refusals.Lacks rights.Impl) _ (λ _. by_there Keeps refused (at f.objects on.uid) (refusals.Absent kinds.Object) _ (λ o _.
-      by_holds Keeps refused (o.of == c.uid) refusals.WrongType _ (λ _. nothing))))))
+      by_cap no (word_at (here x) rt) _ (λ c _. by_cap no (word_at (here x) ro) _ (λ on _. by_there no (at f.types c.uid) (refusals.Absent kinds.Typ) _ (λ _ _.
+      by_holds no (has c rights.Impl) (refusals.Lacks rights.Impl) _ (λ _. by_there no (at f.objects on.uid) (refusals.Absent kinds.Object) _ (λ o _.
+      by_holds no (o.of == c.uid) refusals.WrongType _ (λ _. nothing))))))
   keeps x (asks.MkSeg rd rs name span guard) range =
-      by_cap Keeps refused (word_at (here x) rs) _ (λ c. by_holds Keeps refused (is_length span) refusals.Range _ (λ long. by_make Keeps refused f c name _ (λ p us.
+      by_cap no (word_at (here x) rs) _ (λ c _. by_holds no (is_length span) refusals.Range _ (λ long. by_make no f c name _ (λ p us.
       let l = length_is span long in
       mkseg_sound s h.role h.home f w c.uid name p us span (guard_of guard) l.some l.few (guard_is guard range.4))))
   keeps x (asks.MkDir rd rs name guard) range =
-      by_cap Keeps refused (word_at (here x) rs) _ (λ c. by_make Keeps refused f c name _ (λ p us.
+      by_cap no (word_at (here x) rs) _ (λ c _. by_make no f c name _ (λ p us.
       mkdir_sound s h.role h.home f w c.uid name p us (guard_of guard) (guard_is guard range.3)))
   keeps x (asks.MkType rd rs name) range =
-      by_cap Keeps refused (word_at (here x) rs) _ (λ c. by_make Keeps refused f c name _ (λ p us. mktype_sound s h.role h.home f w c.uid name p us))
+      by_cap no (word_at (here x) rs) _ (λ c _. by_make no f c name _ (λ p us. mktype_sound s h.role h.home f w c.uid name p us))
   keeps x (asks.MkObj rd rt rs name span) range =
-      by_cap Keeps refused (word_at (here x) rt) _ (λ t. by_cap Keeps refused (word_at (here x) rs) _ (λ c. by_holds Keeps refused (is_length span) refusals.Range _ (λ long.
-      by_object_room Keeps refused f _ (λ few. by_dir Keeps refused f c rights.Create _ (λ d live. by_there Keeps refused (at f.types t.uid) (refusals.Absent kinds.Typ) _ (λ y typ.
-      by_holds Keeps refused (has t rights.Make) (refusals.Lacks rights.Make) _ (λ _. by_room Keeps refused d name _ (λ none room us.
+      by_cap no (word_at (here x) rt) _ (λ t _. by_cap no (word_at (here x) rs) _ (λ c _. by_holds no (is_length span) refusals.Range _ (λ long.
+      by_object_room no f _ (λ few. by_dir no f c rights.Create _ (λ d live _. by_there no (at f.types t.uid) (refusals.Absent kinds.Typ) _ (λ y typ.
+      by_holds no (has t rights.Make) (refusals.Lacks rights.Make) _ (λ _. by_room no d name _ (λ none room us.
       let l = length_is span long in
       mkobj_sound s h.role h.home f w c.uid name (record { row = d; live = live; none = none; room = room; few = few }) us t.uid span (ap is_some typ) l.some l.few))))))))
   keeps x (asks.MkCode rd rs name label rl) range =
-      by_cap Keeps refused (word_at (here x) rs) _ (λ c. by_none Keeps refused (barred 1 (word_at (here x) rl)) refusals.Guarded _ (λ _. by_make Keeps refused f c name _ (λ p us.
+      by_cap no (word_at (here x) rs) _ (λ c _. by_none no (barred 1 (word_at (here x) rl)) refusals.Guarded _ (λ _. by_make no f c name _ (λ p us.
       mkcode_sound s h.role h.home f w c.uid name p us (record { label = label; link = word_at (here x) rl }) range.3)))
   keeps x (asks.Delete rs name) range =
-      by_cap Keeps refused (word_at (here x) rs) _ (λ c. by_dir Keeps refused f c rights.Delete _ (λ d live. by_there Keeps refused (named d name) refusals.UnknownName _ (λ e there.
-      by_holds Keeps refused e.kept refusals.NotDistinguished _ (λ kept. by_there Keeps refused (at f.life e.cap.uid) refusals.NotDistinguished _ (λ kind told.
+      by_cap no (word_at (here x) rs) _ (λ c _. by_dir no f c rights.Delete _ (λ d live _. by_there no (named d name) refusals.UnknownName _ (λ e there.
+      by_holds no e.kept refusals.NotDistinguished _ (λ kept. by_there no (at f.life e.cap.uid) refusals.NotDistinguished _ (λ kind told.
       let entry = stands c.uid d name e live there in
       dropped kind e.cap.uid c.uid name (entry ∙ ap (λ (z : Named). Some z) (h.kept.no_other c.uid name e entry kept).0) told)))))
   keeps x (asks.Send rp rv) range =
-      by_cap Keeps refused (word_at (here x) rp) _ (λ c. by_there Keeps refused (at f.boxes c.uid) (refusals.Absent kinds.Process) _ (λ box live. by_holds Keeps refused (has c rights.Send) (refusals.Lacks rights.Send) _ (λ _.
-      by_none Keeps refused (barred 1 (word_at (here x) rv)) refusals.Guarded _ (λ _. by_holds Keeps refused (nat_lt (length box) 8) (refusals.Exhausted Mailbox) _ (λ room us.
+      by_cap no (word_at (here x) rp) _ (λ c _. by_there no (at f.boxes c.uid) (refusals.Absent kinds.Process) _ (λ box live. by_holds no (has c rights.Send) (refusals.Lacks rights.Send) _ (λ _.
+      by_none no (barred 1 (word_at (here x) rv)) refusals.Guarded _ (λ _. by_holds no (nat_lt (length box) 8) (refusals.Exhausted Mailbox) _ (λ room us.
       shared_of s h.role h.home _ (whole_post s h.role h.home (record f { users = us }) (with_users us) c.uid (word_at (here x) rv) box live (ltb-true (length box) 8 room)))))))
-  keeps x (asks.Recv rd) range = by_there Keeps refused (at f.boxes x.process) refusals.Empty _ (λ box _. by_received x.process rd box)
+  keeps x (asks.Recv rd) range = by_there no (at f.boxes x.process) refusals.Empty _ (λ box _. by_received x.process rd box)
   keeps x (asks.Call rp) range =
-      by_cap Keeps refused (word_at (here x) rp) _ (λ c. by_holds Keeps refused (nat_lt (length x.frames) 4) (refusals.Exhausted Frames) _ (λ _. by_holds Keeps refused (nat_le (x.charge + 16) 4096) (refusals.Exhausted Requests) _ (λ _.
-      by_there Keeps refused (at f.codes c.uid) (refusals.Absent kinds.Code) _ (λ code _. by_holds Keeps refused (has c rights.Enter) (refusals.Lacks rights.Enter) _ (λ _. nothing)))))
+      by_cap no (word_at (here x) rp) _ (λ c _. by_holds no (nat_lt (length x.frames) 4) (refusals.Exhausted Frames) _ (λ _. by_holds no (nat_le (x.charge + 16) 4096) (refusals.Exhausted Requests) _ (λ _.
+      by_there no (at f.codes c.uid) (refusals.Absent kinds.Code) _ (λ code _. by_holds no (has c rights.Enter) (refusals.Lacks rights.Enter) _ (λ _. nothing)))))
   keeps x (asks.Path rs) range =
-      by_cap Keeps refused (word_at (here x) rs) _ (λ c. by_holds Keeps refused (nat_lt (length x.path) 4) (refusals.Exhausted Path) _ (λ _. by_dir Keeps refused f c rights.Lookup _ (λ d _. nothing)))
-  keeps x (asks.Find rd name) range = by_find x.path rd name
+      by_cap no (word_at (here x) rs) _ (λ c _. by_holds no (nat_lt (length x.path) 4) (refusals.Exhausted Path) _ (λ _. by_dir no f c rights.Lookup _ (λ d _ _. nothing)))
+  keeps x (asks.Find rd name) range = by_find no f rd name x.path (λ i dir at_i d live may e there. nothing)

@@ -20,7 +20,7 @@ use Rattle.psos_laws.specs.declared.way.Way.TheVariants.{Boot, Made, Copied}
 use Rattle.psos_laws.specs.Landings.{Landing}
 use Rattle.psos_laws.specs.Reads.{IsCopy, HasRight, MayRead, MayWindow}
 use Rattle.psos_laws.specs.When.{WhenFound, WhenTrue}
-use Rattle.psos_laws.specs.History.{Event, entry_at, origin_by, origin_of, IsSoundWay, AreSoundOrigins, HaveAllLanded}
+use Rattle.psos_laws.specs.History.{Transition, entry_at, origin_by, origin_of, IsSoundWay, AreSoundOrigins, HaveAllLanded}
 use Rattle.psos_laws.specs.Sealed.{ThroughSource, Through, MadeBy, IsSealed}
 use Rattle.psos_laws.proofs.Landings.{each_found}
 use Rattle.psos_laws.proofs.StepLaws.{IsNew, IsCopyFrom, OnlyImpl, NewRep}
@@ -30,7 +30,7 @@ use Rattle.psos_laws.proofs.Histories.{IsLedTo, firm_at}
 -- ---- origins
 
 -- a stamp is below the number of entries
-entry_below : (past : List Event) (t : ℕ) (e : Event) → entry_at past t ≡ Some e → t < length past
+entry_below : (past : List Transition) (t : ℕ) (e : Transition) → entry_at past t ≡ Some e → t < length past
 entry_below [] t e is = absurd (none-some e is)
 entry_below (x ∷ past) t e is = elim (cases_eq t (length past)) [
   | inl same ↦ omega (arith, same)
@@ -38,11 +38,11 @@ entry_below (x ∷ past) t e is = elim (cases_eq t (length past)) [
 ]
 
 -- an entry has its stamp still when others come
-entry_stays : (x : Event) (past : List Event) (t : ℕ) (e : Event) → entry_at past t ≡ Some e → entry_at (x ∷ past) t ≡ Some e
+entry_stays : (x : Transition) (past : List Transition) (t : ℕ) (e : Transition) → entry_at past t ≡ Some e → entry_at (x ∷ past) t ≡ Some e
 entry_stays x past t e is =
     ap (λ b. cond b (Some x) (entry_at past t)) (ne_eqb t (length past) (λ same. omega (arith, same, entry_below past t e is))) ∙ is
 
-way_stays : (start : Flat) (x : Event) (past : List Event) (p : Place) (c : Capability) (stamp : Option ℕ) (way : Way)
+way_stays : (start : Flat) (x : Transition) (past : List Transition) (p : Place) (c : Capability) (stamp : Option ℕ) (way : Way)
     → IsSoundWay start past (x.moved p) c stamp way → IsSoundWay start (x ∷ past) p c stamp way
 way_stays start x past p c (Some t) (Copied q by) h = (h.0, entry_stays x past t h.0 h.1, h.2)
 way_stays start x past p c (Some t) Made h = (h.0, entry_stays x past t h.0 h.1, h.2)
@@ -51,10 +51,10 @@ way_stays start x past p c None Boot h = h
 way_stays start x past p c None (Copied q by) h = h
 way_stays start x past p c None Made h = h
 
-abbrev IsSoundOrigin : Flat → List Event → Place → Capability → Origin → Type 0
+abbrev IsSoundOrigin : Flat → List Transition → Place → Capability → Origin → Type 0
 IsSoundOrigin start past p c o = IsSoundWay start past p c o.stamp o.way
 
-module _ (start : Flat) (x : Event) (past : List Event) (next : ℕ) (p : Place) (c : Capability) where
+module _ (start : Flat) (x : Transition) (past : List Transition) (next : ℕ) (p : Place) (c : Capability) where
   now : entry_at (x ∷ past) (length past) ≡ Some x
   now = ap (λ b. cond b (Some x) (entry_at past (length past))) (eq-eqb (length past) (length past) refl)
 
@@ -68,7 +68,7 @@ module _ (start : Flat) (x : Event) (past : List Event) (next : ℕ) (p : Place)
   landing None (inr none) = absurd none
   landing (Some q) h = by_new (nat_le x.flat.next c.uid) q refl h
 
-pub sound_origins : (start : Flat) (past : List Event) (g : Flat) → IsLedTo start past g → AreSoundOrigins start past g
+pub sound_origins : (start : Flat) (past : List Transition) (g : Flat) → IsLedTo start past g → AreSoundOrigins start past g
 sound_origins start [] g led p c e = subst (λ f. cap_at f p ≡ Some c) led.1 e
 sound_origins start (x ∷ past) g led p c e =
     let P : Option Landing → Type 0 = λ o. IsSoundOrigin start (x ∷ past) p c (if_there o (origin_of past (x.moved p) c) (λ l. origin_by (length past) x.flat.next c l.source)) in
@@ -79,7 +79,7 @@ sound_origins start (x ∷ past) g led p c e =
 
 -- ---- what landed
 
-pub all_landed : (start : Flat) (past : List Event) (g : Flat) → IsLedTo start past g → HaveAllLanded start past g
+pub all_landed : (start : Flat) (past : List Transition) (g : Flat) → IsLedTo start past g → HaveAllLanded start past g
 all_landed start [] g led = led.1
 all_landed start (e ∷ past) g led = (λ p c held. led.0.nothing_else p c held, all_landed start past e.flat led.2)
 
@@ -93,7 +93,7 @@ by_impl f u o q (Some r) h is =
     let same : r ≡ Impl = same_Some r Impl (sym h.0 ∙ ap right_of is) in
     (ap Some same, subst (λ z. HasRight f u z q) same h.1)
 
-module _ (start : Flat) (v : Event) (past : List Event) (g : Flat) (led : IsLedTo start (v ∷ past) g) (o : ℕ) (x : Object) (p : Place) (c : Capability) (e : cap_at g p ≡ Some c) (same : c.uid ≡ x.rep) where
+module _ (start : Flat) (v : Transition) (past : List Transition) (g : Flat) (led : IsLedTo start (v ∷ past) g) (o : ℕ) (x : Object) (p : Place) (c : Capability) (e : cap_at g p ≡ Some c) (same : c.uid ≡ x.rep) where
   abbrev Earlier : Type 0
   Earlier = (q : Place) (k : Capability) → cap_at v.flat q ≡ Some k → k.uid ≡ x.rep → (q ≡ ImplOf (uid o)) ⊎ Through start past q k o
 
@@ -123,7 +123,7 @@ module _ (start : Flat) (v : Event) (past : List Event) (g : Flat) (led : IsLedT
   ]
 
 -- capabilities on representations of objects came by the right impl, or lay there at the start
-sealed_objects : (start : Flat) (past : List Event) (g : Flat) → IsLedTo start past g → (o : ℕ) (x : Object) → at g.objects o ≡ Some x → (p : Place) (c : Capability) → cap_at g p ≡ Some c → c.uid ≡ x.rep
+sealed_objects : (start : Flat) (past : List Transition) (g : Flat) → IsLedTo start past g → (o : ℕ) (x : Object) → at g.objects o ≡ Some x → (p : Place) (c : Capability) → cap_at g p ≡ Some c → c.uid ≡ x.rep
     → (p ≡ ImplOf (uid o)) ⊎ Through start past p c o
 sealed_objects start [] g led o x live p c e same = inr (x, subst (λ (f : Flat). at f.objects o ≡ Some x) led.1 live, same, subst (λ f. cap_at f p ≡ Some c) led.1 e)
 sealed_objects start (v ∷ past) g led o x live p c e same = elim (led.0.objects o x live) [
@@ -132,7 +132,7 @@ sealed_objects start (v ∷ past) g led o x live p c e same = elim (led.0.object
 ]
 
 -- every window was made by a user that could, or was there at the start
-windows_made : (start : Flat) (past : List Event) (g : Flat) → IsLedTo start past g → (w : ℕ) (y : WinRow) → at g.windows w ≡ Some y → MadeBy start past w y.seg.0
+windows_made : (start : Flat) (past : List Transition) (g : Flat) → IsLedTo start past g → (w : ℕ) (y : WinRow) → at g.windows w ≡ Some y → MadeBy start past w y.seg.0
 windows_made start [] g led w y live = (y, subst (λ (f : Flat). at f.windows w ≡ Some y) led.1 live, refl)
 windows_made start (e ∷ past) g led w y live =
     let P : Bool → Type 0 = λ b. WhenTrue b (MayWindow e.flat e.user y.seg.0) (MadeBy start past w y.seg.0) in
@@ -143,7 +143,7 @@ windows_made start (e ∷ past) g led w y live =
       | inr new ↦ subst P (sym (eq-eqb e.flat.next w new.0)) new.1
     ]
 
-pub is_sealed : (start : Flat) (past : List Event) (g : Flat) → IsLedTo start past g → IsSealed start past g
+pub is_sealed : (start : Flat) (past : List Transition) (g : Flat) → IsLedTo start past g → IsSealed start past g
 is_sealed start past g led =
     let firm = firm_at start past g led in
     record {

@@ -12,7 +12,7 @@ use Rattle.psos_model.specs.Flat.Places.{cap_at, is_own}
 use Rattle.psos_model.specs.Answer.Outcomes.{Source}
 use Rattle.psos_laws.specs.Landings.{Landing}
 use Rattle.psos_laws.specs.Reads.{Contains, Leads, MayRead, IsCopy}
-use Rattle.psos_laws.specs.History.{Event}
+use Rattle.psos_laws.specs.History.{Transition}
 use Rattle.psos_laws.specs.When.{WhenFound, WhenTrue}
 use Rattle.psos_laws.specs.Trails.{Held, holds, WalkBy, IsWalk, AreHeldBack, IsHeldBack, IsConfined}
 use Rattle.psos_laws.proofs.StepLaws.{Step, Ground, Admits, IsNew, IsCopyFrom}
@@ -125,12 +125,12 @@ module _ (f : Flat) (v : ℕ) (firm : Firm f) (p : Place) (c : Capability) (q : 
   back_copy = record { more = more; private = private }
 
 -- the way back from a place
-record Back (past : List Event) (p : Place) (c : Capability) : Type 0 where
+record Back (past : List Transition) (p : Place) (c : Capability) : Type 0 where
   way : List Held
   walk : IsWalk past p c way
   held : IsBackFrom way p c
 
-module _ (x : Event) (past : List Event) (g : Flat) (firm : Firm x.flat) (p : Place) (c : Capability) where
+module _ (x : Transition) (past : List Transition) (g : Flat) (firm : Firm x.flat) (p : Place) (c : Capability) where
   moved_back : (led : Step x.flat g x.user x.landings x.moved) (way : List Held) → IsBackFrom way (x.moved p) c → IsBackFrom way p c
   moved_back led way b = record { more = b.more; private = λ i h e lacks. let r = b.private i h e lacks in (r.0, sym (led.own p r.0) ∙ r.1, r.2) }
 
@@ -149,7 +149,7 @@ module _ (x : Event) (past : List Event) (g : Flat) (firm : Firm x.flat) (p : Pl
           let b = on q.place copy.old copy.held in
           (holds q.place copy.old ∷ b.way, (copy.old, b.way, copy.held, copy.same, b.walk, refl), back_copy x.flat x.user firm p c q.place q.by admits copy b.way b.held)
 
-back : (start : Flat) (past : List Event) (g : Flat) → IsLedTo start past g → (p : Place) (c : Capability) → cap_at g p ≡ Some c → Back past p c
+back : (start : Flat) (past : List Transition) (g : Flat) → IsLedTo start past g → (p : Place) (c : Capability) → cap_at g p ≡ Some c → Back past p c
 back start [] g led p c e = record { way = []; walk = refl; held = nothing_back p c }
 back start (x ∷ past) g led p c e =
     let P : List Held → Option Landing → Type 0 = λ way l. WhenFound l (IsWalk past (x.moved p) c way) (λ l. WalkBy x.flat c l.source (IsWalk past) way) in
@@ -172,7 +172,7 @@ back_from g firm p c e way b (suc i) h is lacks =
     let r = b.private i h is lacks in
     (r.0, one_more p c way r.0 r.1 i r.2)
 
-pub is_held_back : (start : Flat) (past : List Event) (g : Flat) → IsLedTo start past g → IsHeldBack past g
+pub is_held_back : (start : Flat) (past : List Transition) (g : Flat) → IsLedTo start past g → IsHeldBack past g
 is_held_back start past g led p c e =
     let b = back start past g led p c e in
     (b.way, b.walk, back_from g (firm_at start past g led) p c e b.way b.held)

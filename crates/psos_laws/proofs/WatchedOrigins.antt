@@ -8,12 +8,12 @@ use Rattle.psos_model.specs.Flat.Boot.{boot}
 use Rattle.psos_model.specs.Run.{IsLegalFrom, run}
 use Rattle.psos_model.specs.Sound.{IsSound}
 use Rattle.psos_laws.specs.declared.origins.Origins.{Origins}
-use Rattle.psos_laws.specs.History.{Event, event_at, past_after, history}
+use Rattle.psos_laws.specs.History.{Transition, transition_at, past_after, history}
 use Rattle.psos_laws.specs.Arrivals.{AreFull, Tells}
 use Rattle.psos_laws.proofs.OriginTables.{are_full, tells_boot}
-use Rattle.psos_laws.proofs.BootSound.{boot_start}
+use Rattle.psos_laws.proofs.BootSoundness.{boot_start}
 use Rattle.psos_laws.proofs.OrderLengths.{orders_end}
-use Rattle.psos_laws.proofs.SharedSound.{runs_kept}
+use Rattle.psos_laws.proofs.SoundRuns.{runs_kept}
 
 -- ---- a legal run
 
@@ -23,9 +23,9 @@ run_sound s order f w state = subst (IsSound s) (sym state) (runs_kept s (boot s
 pub run_full : (s : Script) (order : List ℕ) (f : Flat) → IsWellFormed s → f ≡ run s order → AreFull f.users
 run_full s order f w state = are_full s f w (run_sound s order f w state)
 
-past_length : (s : Script) (order : List ℕ) (f : Flat) (past : List Event) → length (past_after s f past order) ≡ length order + length past
+past_length : (s : Script) (order : List ℕ) (f : Flat) (past : List Transition) → length (past_after s f past order) ≡ length order + length past
 past_length s [] f past = omega arith
-past_length s (u ∷ us) f past = let rest = past_length s us (answer s f u).0 (event_at s f u ∷ past) in omega (arith, rest)
+past_length s (u ∷ us) f past = let rest = past_length s us (answer s f u).0 (transition_at s f u ∷ past) in omega (arith, rest)
 
 -- so many requests were kept at most
 pub kept_few : (s : Script) (order : List ℕ) (f : Flat) (o : Origins) → IsWellFormed s → IsLegalFrom s (boot s) order → Tells (history s order) f o → length o.past.items < 2 ^ 32

@@ -15,15 +15,16 @@ use Rattle.psos_model.proofs.Orders.{run_append, legal_more}
 use Rattle.psos_laws.specs.History.{history}
 use Rattle.psos_laws.specs.Trails.{IsConfined}
 use Rattle.psos_laws.specs.Laws.{IsLawful}
-use Rattle.psos_laws.proofs.BootSound.{boot_start}
+use Rattle.psos_laws.specs.Watched.{Watched, IsWatched, script_of, order_of, flat_of}
+use Rattle.psos_laws.proofs.BootSoundness.{boot_start}
 use Rattle.psos_laws.proofs.OrderLengths.{orders_end}
 use Rattle.psos_laws.proofs.PlacesLaws.{confined_stays_once}
 use Rattle.psos_laws.proofs.PlacesRuns.{run_is_lawful}
-use Rattle.psos_laws.proofs.SharedSound.{runs_kept}
+use Rattle.psos_laws.proofs.SoundRuns.{runs_kept}
 use Rattle.psos_laws.proofs.RoomToStep.{can_step}
 
 -- each request uses two identifiers at most
-next_most : (s : Script) (order : List ℕ) (f : Flat) → (run_from s f order).next ≤ f.next + 2 * length order
+pub next_most : (s : Script) (order : List ℕ) (f : Flat) → (run_from s f order).next ≤ f.next + 2 * length order
 next_most s [] f = omega arith
 next_most s (u ∷ us) f =
     let rest = next_most s us (answer s f u).0 in
@@ -33,13 +34,6 @@ next_most s (u ∷ us) f =
 -- ---- the state of a legal order of a well-formed script
 
 -- t is the script, and f the state after the order
-pub record IsRun (s t : Script) (order : List ℕ) (f : Flat) : Type 0 where
-  pub formed : IsWellFormed s
-  pub legal : IsLegalFrom s (boot s) order
-  pub state : f ≡ run s order
-  pub script : s ≡ t
-
--- what holds of it
 pub record AreLaws (t : Script) (order : List ℕ) (f : Flat) : Type 0 where
   pub formed : IsWellFormed t
   pub legal : IsLegalFrom t (boot t) order
@@ -56,11 +50,9 @@ laws_by t order formed legal f state = record {
   lawful = subst (IsLawful (boot t) (history t order)) (sym state) (run_is_lawful t (boot t) order formed (boot_start t formed).sound);
 }
 
-pub laws_of : (s t : Script) (order : List ℕ) (f : Flat) → IsRun s t order f → AreLaws t order f
-laws_of s t order f h = subst P h.script (λ formed legal state. laws_by s order formed legal f state) h.formed h.legal h.state
-  where
-    P : Script → Type 0
-    P x = IsWellFormed s → IsLegalFrom s (boot s) order → f ≡ run s order → AreLaws x order f
+-- of what a `Watched` keeps, and of a script that is the one that boot took
+pub watched_laws : (w : Watched) (t : Script) → IsWatched w → script_of w ≡ t → AreLaws t (order_of w) (flat_of w)
+watched_laws w t h script = subst (λ x. AreLaws x (order_of w) (flat_of w)) script (laws_by (script_of w) (order_of w) h.formed h.legal (flat_of w) h.state)
 
 -- and of the script that boot took
 pub laws_back : (s t : Script) (order : List ℕ) (f : Flat) → s ≡ t → AreLaws t order f → AreLaws s order f

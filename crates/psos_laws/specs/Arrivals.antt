@@ -25,7 +25,7 @@ use Rattle.psos_laws.specs.declared.origins.Origins as origins
 use Rattle.psos_laws.specs.declared.origin.Origin.{Origin}
 use Rattle.psos_laws.specs.declared.way.Way.TheVariants.{Boot}
 use Rattle.psos_laws.specs.Landings.{Landing, change_puts, effect_puts, before_change}
-use Rattle.psos_laws.specs.History.{Event, origin_of, origin_by}
+use Rattle.psos_laws.specs.History.{Transition, origin_of, origin_by}
 
 -- a landing without its word
 abbrev pub Arrival : Type 0
@@ -102,7 +102,7 @@ pub record IsComing (s : Script) (f : Flat) (u : ℕ) (k : coming.Coming) : Type
   pub caller : (x : User) → slice_get f.users u ≡ Some x → (i : ℕ) → i < 16 → word_at k.caller i ≡ word_at (here x) i
 
 -- what is kept after the request, where y is its user's part after it
-pub record IsKept (k : coming.Coming) (u : ℕ) (y : User) (old new : origins.Origins) : Type 0 where
+pub record AddsArrivals (k : coming.Coming) (u : ℕ) (y : User) (old new : origins.Origins) : Type 0 where
   pub last : Arrivals
   pub past : new.past.items ≡ old.past.items ++ last ∷ []
   pub next : last.next ≡ k.arrivals.next
@@ -129,7 +129,7 @@ pub record AreFull (users : List User) : Type 0 where
   pub each : (u : ℕ) (x : User) → slice_get users u ≡ Some x → IsFull x
 
 -- it tells the origins of a history, in this state
-pub record Tells (past : List Event) (f : Flat) (o : origins.Origins) : Type 0 where
+pub record Tells (past : List Transition) (f : Flat) (o : origins.Origins) : Type 0 where
   pub count : length o.past.items ≡ length past
   pub origins : (p : Place) (cap : Capability) → told (reverse o.past.items) p cap ≡ origin_of past p cap
   pub room : length o.callers.items ≡ 32

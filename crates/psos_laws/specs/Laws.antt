@@ -16,12 +16,12 @@ use Rattle.psos_model.specs.Run.{run_from, run}
 use Rattle.psos_model.specs.Sound.Guarded.{IsGuarded}
 use Rattle.psos_model.specs.Sound.{IsSound}
 use Rattle.psos_laws.specs.Landings.{Landing, found, landed, IsThere}
-use Rattle.psos_laws.specs.History.{Event, event_at, history_from, AreSoundOrigins, HaveAllLanded}
+use Rattle.psos_laws.specs.History.{Transition, transition_at, history_from, AreSoundOrigins, HaveAllLanded}
 use Rattle.psos_laws.specs.Trails.{IsHeldBack, IsConfined}
 use Rattle.psos_laws.specs.Sealed.{IsSealed}
 
 -- what holds of a state after the requests of a history, from a start
-pub record IsLawful (start : Flat) (past : List Event) (f : Flat) : Type 0 where
+pub record IsLawful (start : Flat) (past : List Transition) (f : Flat) : Type 0 where
   pub landed : HaveAllLanded start past f
   pub origins : AreSoundOrigins start past f
   pub guarded : IsGuarded f
@@ -53,14 +53,14 @@ AProcessIsConfined = (s : Script) → IsWellFormed s → slice_get (requests_of 
 -- a capability at a place after an answer landed there, or lay there or moved up to there
 abbrev pub LandingsAreAll : Type 0
 LandingsAreAll = (s : Script) (f : Flat) (u : ℕ) (p : Place) (cap : Capability) → IsWellFormed s → IsSound s f → cap_at (answer s f u).0 p ≡ Some cap
-    → landed (event_at s f u).landings p (cap_at f ((event_at s f u).moved p)) ≡ Some cap
+    → landed (transition_at s f u).landings p (cap_at f ((transition_at s f u).moved p)) ≡ Some cap
 
 -- a capability that lands and was read nowhere is new
 abbrev pub UnreadIsNew : Type 0
 UnreadIsNew = (s : Script) (f : Flat) (u i : ℕ) (l : Landing) (cap : Capability) → IsWellFormed s → IsSound s f
-    → slice_get (event_at s f u).landings i ≡ Some l → l.word ≡ Cap cap → l.source ≡ None → f.next ≤ cap.uid
+    → slice_get (transition_at s f u).landings i ≡ Some l → l.word ≡ Cap cap → l.source ≡ None → f.next ≤ cap.uid
 
 -- what landed last at a place is there after an answer, if the place is
 abbrev pub LandingsStay : Type 0
 LandingsStay = (s : Script) (f : Flat) (u : ℕ) (p : Place) (l : Landing) → IsWellFormed s → IsSound s f
-    → found (event_at s f u).landings p ≡ Some l → IsThere (answer s f u).0 p → cap_at (answer s f u).0 p ≡ cap_in l.word
+    → found (transition_at s f u).landings p ≡ Some l → IsThere (answer s f u).0 p → cap_at (answer s f u).0 p ≡ cap_in l.word

@@ -8,7 +8,7 @@ use Rattle.psos_model.specs.Flat.Places.{cap_at, is_own}
 use Rattle.psos_model.specs.Answer.Outcomes.{Source}
 use Rattle.psos_laws.specs.Landings.{found}
 use Rattle.psos_laws.specs.When.{WhenFound, WhenTrue}
-use Rattle.psos_laws.specs.History.{Event}
+use Rattle.psos_laws.specs.History.{Transition}
 
 -- a place, and the capability that it held
 pub record Held : Type 0 where
@@ -26,7 +26,7 @@ WalkBy f cap (Some q) on way =
     ((old : Capability) × (rest : List Held) × (cap_at f q.place ≡ Some old) × (old.uid ≡ cap.uid) × on q.place old rest × (way ≡ holds q.place old ∷ rest))
 
 -- the way back from a place: where its capability was copied from, and that one, and so on to what was made or lay there at the start
-abbrev pub IsWalk : List Event → Place → Capability → List Held → Type 0
+abbrev pub IsWalk : List Transition → Place → Capability → List Held → Type 0
 IsWalk [] p cap way = way ≡ []
 IsWalk (e ∷ past) p cap way = WhenFound (found e.landings p) (IsWalk past (e.moved p) cap way) (λ l. WalkBy e.flat cap l.source (IsWalk past) way)
 
@@ -36,7 +36,7 @@ AreHeldBack way = (i : ℕ) (h : Held) → slice_get way i ≡ Some h → has_bi
     → (u : ℕ) × ((j : ℕ) (k : Held) → j ≤ i → slice_get way j ≡ Some k → is_own k.place u ≡ true)
 
 -- there is a way back from each place that holds a capability, and so it is on it
-abbrev pub IsHeldBack : List Event → Flat → Type 0
+abbrev pub IsHeldBack : List Transition → Flat → Type 0
 IsHeldBack past f = (p : Place) (cap : Capability) → cap_at f p ≡ Some cap → (way : List Held) × IsWalk past p cap way × AreHeldBack (holds p cap ∷ way)
 
 -- each capability on x with a right of m lacks bit 0 and lies at a private place of user u; and x is no new identifier

@@ -7,7 +7,7 @@ ghost use Rattle.psos_words.specs.declared.word.Word.{Word as WordValue};
 ghost use Rattle.psos_calls.specs.Language.Script.{IsWellFormed};
 ghost use Rattle.psos_calls.specs.Language.User.{User};
 ghost use Rattle.psos_model.specs.Answer.CanStep.{CanStep};
-ghost use Rattle.psos_laws.specs.Arrivals.{told, came_out, IsComing, IsKept};
+ghost use Rattle.psos_laws.specs.Arrivals.{told, came_out, IsComing, AddsArrivals};
 
 use crate::arrival::Arrival;
 use crate::arrivals::{Arrivals, drawn_since, last_to};
@@ -92,7 +92,7 @@ impl Origins {
         requires opened { coming.opened ≤ 5 }
         requires callers { length self.old.callers.items ≡ 32 }
         requires user { user < 8 }
-        ensures { (y : User) → slice_get flat.now.users user ≡ Some y → IsKept coming user y self.old self.new }
+        ensures { (y : User) → slice_get flat.now.users user ≡ Some y → AddsArrivals coming user y self.old self.new }
     {
         if let Some(me) = flat.users.get(user) {
             self.keep_one(coming, user, me);
@@ -106,7 +106,7 @@ impl Origins {
         requires opened { coming.opened ≤ 5 }
         requires callers { length self.old.callers.items ≡ 32 }
         requires user { user < 8 }
-        ensures { IsKept coming user me.now self.old self.new }
+        ensures { AddsArrivals coming user me.now self.old self.new }
     {
         let bodies = coming.bodies;
         let caller = coming.caller;

@@ -3,6 +3,7 @@ pub mod NameOrder
 pub mod UndoneChanges
 pub mod Registration
 pub mod RequestsLeft
+pub mod OutcomeRules
 pub mod OutcomeWalk
 pub mod AnswerBounds
 pub mod RequestRanges

@@ -12,7 +12,6 @@ use Rattle.psos_words.specs.Words.{word_at}
 use Rattle.psos_words.specs.Guard.{barred}
 use Rattle.psos_calls.specs.declared.kind.Kind.{Kind}
 use Rattle.psos_calls.specs.declared.kind.Kind.TheVariants as kinds
-use Rattle.psos_calls.specs.declared.right.Right.{Right}
 use Rattle.psos_calls.specs.declared.right.Right.TheVariants as rights
 use Rattle.psos_calls.specs.declared.refusal.Refusal.{Refusal}
 use Rattle.psos_calls.specs.declared.refusal.Refusal.TheVariants as refusals
@@ -23,23 +22,22 @@ use Rattle.psos_calls.specs.declared.request.Request.TheVariants as asks
 use Rattle.psos_calls.specs.declared.effect.Effect.{Effect}
 use Rattle.psos_calls.specs.declared.effect.Effect.TheVariants.{Nothing, Put, Push, Enter}
 use Rattle.psos_calls.specs.declared.code_row.CodeRow.{CodeRow}
-use Rattle.psos_calls.specs.Language.Tests.{if_there, if_none, if_cap, if_data, if_holds}
 use Rattle.psos_calls.specs.Language.User.{User, here}
 use Rattle.psos_calls.specs.Language.Replies.{word_reply}
-use Rattle.psos_calls.specs.Language.Views.{View, fits_in, part_of}
+use Rattle.psos_calls.specs.Language.Views.{fits_in, part_of}
 use Rattle.psos_calls.specs.Language.Stores.{is_length}
 use Rattle.psos_calls.specs.Language.Stores.{guard_of}
 use Rattle.psos_calls.specs.declared.tab.Tab.TheVariants.{Windows, Path, Mailbox, Frames, Requests}
-use Rattle.psos_model.specs.Flat.{Flat, Directory, Named, named, flat_view, words_of}
+use Rattle.psos_model.specs.Flat.{Flat, named, words_of}
 use Rattle.psos_model.specs.declared.change.Change.{Change}
 use Rattle.psos_model.specs.declared.change.Change.TheVariants.{Fresh, PutWord, Bind, Unbind, Register, Unregister, Post, Draw, MakeSegment, MakeWindow, MakeType, MakeObject, MakeDirectory, DropSegment, DropType, DropObject, DropDirectory, DropCode}
 use Rattle.psos_model.specs.Flat.Safe.{used, used_by}
 use Rattle.psos_calls.specs.Language.Rights.{has}
-use Rattle.psos_model.specs.Answer.Outcomes.{Outcome, Source, refuse, gives, does, if_view, if_dir, if_room, if_object_room, make_in}
-use Rattle.psos_model.specs.Answer.Directories.{find_in}
+use Rattle.psos_model.specs.Answer.Outcomes.{Outcome, Source, refuse, gives, does}
 use Rattle.psos_model.specs.Answer.Objects.{makes, has_objects, drops}
 use Rattle.psos_model.specs.Answer.Processes.{received}
 use Rattle.psos_model.specs.Answer.{outcome}
+use Rattle.psos_model.proofs.OutcomeRules.{Refuses, by_cap, by_data, by_there, by_none, by_holds, by_view, by_dir, by_room, by_object_room, by_make, by_find}
 
 -- the reply is no refusal
 abbrev pub is_kind : Reply → Bool
@@ -71,48 +69,8 @@ word_is_kind (Data n) = refl
 word_is_kind (Cap c) = refl
 
 module _ (f : Flat) (x : User) (P : Outcome → Type 0) (refused : (r : Refusal) → P (refuse r)) (done : (o : Outcome) → IsDone f x o → P o) where
-  by_cap : (w : Word) (go : Capability → Outcome) → ((c : Capability) → P (go c)) → P (if_cap w (refuse refusals.NotCap) go)
-  by_cap (Data n) go h = refused refusals.NotCap
-  by_cap (Cap c) go h = h c
-
-  by_data : (w : Word) (go : ℕ → Outcome) → ((n : ℕ) → P (go n)) → P (if_data w (refuse refusals.NotData) go)
-  by_data (Data n) go h = h n
-  by_data (Cap c) go h = refused refusals.NotData
-
-  by_there : {X : Type 0} (o : Option X) (r : Refusal) (go : X → Outcome) → ((x : X) → P (go x)) → P (if_there o (refuse r) go)
-  by_there None r go h = refused r
-  by_there (Some x) r go h = h x
-
-  by_none : {X : Type 0} (o : Option X) (r : X → Refusal) (go : Outcome) → P go → P (if_none o (λ x. refuse (r x)) go)
-  by_none None r go h = h
-  by_none (Some x) r go h = refused (r x)
-
-  by_holds : (b : Bool) (r : Refusal) (go : Outcome) → P go → P (if_holds b (refuse r) go)
-  by_holds true r go h = h
-  by_holds false r go h = refused r
-
-  by_test : (b : Bool) (r : Refusal) (go : Outcome) → (b ≡ true → P go) → P (if_holds b (refuse r) go)
-  by_test true r go h = h refl
-  by_test false r go h = refused r
-
-  by_row : {X : Type 0} (o : Option X) (r : Refusal) (go : X → Outcome) → ((x : X) → o ≡ Some x → P (go x)) → P (if_there o (refuse r) go)
-  by_row None r go h = refused r
-  by_row (Some x) r go h = h x refl
-
-  by_view : (f : Flat) (cap : Capability) (right : Right) (go : View → Outcome) → ((v : View) → P (go v)) → P (if_view f cap right go)
-  by_view f cap right go h = by_there (flat_view f cap.uid) _ _ (λ v. by_holds (has cap right) (refusals.Lacks right) _ (h v))
-
-  by_dir : (f : Flat) (cap : Capability) (right : Right) (go : Directory → Outcome) → ((d : Directory) → P (go d)) → P (if_dir f cap right go)
-  by_dir f cap right go h = by_there (at f.dirs cap.uid) _ _ (λ d. by_holds (has cap right) (refusals.Lacks right) _ (h d))
-
-  by_room : (d : Directory) (name : Name) (go : Outcome) → P go → P (if_room d name go)
-  by_room d name go h = by_none (named d name) (λ _. refusals.NameTaken) _ (by_holds (nat_lt (len d.names) 127) _ _ h)
-
-  by_object_room : (f : Flat) (go : Outcome) → P go → P (if_object_room f go)
-  by_object_room f go h = by_holds (nat_lt (size f.life) 512) _ _ h
-
-  by_make : (f : Flat) (dir : Capability) (name : Name) (go : Outcome) → P go → P (make_in f dir name go)
-  by_make f dir name go h = by_object_room f _ (by_dir f dir rights.Create _ (λ d. by_room d name go h))
+  no : Refuses P
+  no = record { refused = refused }
 
   word_goes : (changes : List Change) (rd : ℕ) (w : Word) (source : Option Source) → used_by changes ≤ 2 → P (gives changes rd w source)
   word_goes changes rd w source few = done (gives changes rd w source) (record { reply = word_is_kind w; few = few; effect = tt })
@@ -127,29 +85,11 @@ module _ (f : Flat) (x : User) (P : Outcome → Type 0) (refused : (r : Refusal)
   by_makes : (f : Flat) (making : Change) (dir : Capability) (name : Name) (kind : Kind) (others : List Change) (rd : ℕ) → used making ≡ 0 → used_by others ≤ 1 → P (makes f making dir name kind others rd)
   by_makes f making dir name kind others rd e few = word_goes (making ∷ Register f.next dir.uid name kind ∷ Fresh ∷ others) rd (Cap (full f.next)) None (omega (arith, e, few))
 
-  by_entry : (later : Outcome) → P later → (o : Option Named) (go : Named → Outcome) → ((e : Named) → P (go e)) → P (if_there o later go)
-  by_entry later h None go g = h
-  by_entry later h (Some e) go g = g e
-
-  by_right : (later : Outcome) → P later → (b : Bool) (go : Outcome) → P go → P (if_holds b later go)
-  by_right later h false go g = h
-  by_right later h true go g = g
-
-  by_live : (later : Outcome) → P later → (o : Option Directory) (go : Directory → Outcome) → ((d : Directory) → P (go d)) → P (if_there o later go)
-  by_live later h None go g = h
-  by_live later h (Some d) go g = g d
-
-  by_find : (f : Flat) (path : List Capability) (rd : ℕ) (name : Name) → P (find_in f path rd name)
-  by_find f [] rd name = refused refusals.UnknownName
-  by_find f (dir ∷ rest) rd name =
-      let later = by_find f rest rd name in
-      by_live _ later (at f.dirs dir.uid) _ (λ d. by_right _ later (has dir rights.Lookup) _ (by_entry _ later (named d name) _ (λ e. plain rd (Cap e.cap) _)))
-
   by_drops : (f : Flat) (kind : Kind) (u : ℕ) (last : List Change) → used_by last ≤ 2 → P (drops f kind u last)
   by_drops f kinds.Segment u last few = changes_go (DropSegment u ∷ last) None (omega (arith, few))
-  by_drops f kinds.Directory u last few = by_there (at f.dirs u) _ _ (λ d. by_holds (len d.names == 0) _ _ (changes_go (DropDirectory u ∷ last) None (omega (arith, few))))
-  by_drops f kinds.Typ u last few = by_holds (not (has_objects f u)) _ _ (changes_go (DropType u ∷ last) None (omega (arith, few)))
-  by_drops f kinds.Object u last few = by_there (at f.objects u) _ _ (λ o. changes_go (DropObject u o.rep ∷ last) None (omega (arith, few)))
+  by_drops f kinds.Directory u last few = by_there no (at f.dirs u) _ _ (λ d _. by_holds no (len d.names == 0) _ _ (λ _. changes_go (DropDirectory u ∷ last) None (omega (arith, few))))
+  by_drops f kinds.Typ u last few = by_holds no (not (has_objects f u)) _ _ (λ _. changes_go (DropType u ∷ last) None (omega (arith, few)))
+  by_drops f kinds.Object u last few = by_there no (at f.objects u) _ _ (λ o _. changes_go (DropObject u o.rep ∷ last) None (omega (arith, few)))
   by_drops f kinds.Code u last few = changes_go (DropCode u ∷ last) None (omega (arith, few))
   by_drops f kinds.Process u last few = refused refusals.NotDistinguished
 
@@ -159,59 +99,59 @@ module _ (f : Flat) (x : User) (P : Outcome → Type 0) (refused : (r : Refusal)
 
   pub by_outcome : (r : Request) → P (outcome f x r)
   by_outcome (asks.Mint rd) = word_goes (Fresh ∷ []) rd _ None (omega arith)
-  by_outcome (asks.Restrict rd rs keep) = by_cap (word_at (here x) rs) _ (λ c. plain rd (Cap (restricted c keep.0)) _)
+  by_outcome (asks.Restrict rd rs keep) = by_cap no (word_at (here x) rs) _ (λ c _. plain rd (Cap (restricted c keep.0)) _)
   by_outcome (asks.Set rd n) = plain rd (Data n) None
   by_outcome (asks.Move rd rs) = plain rd (word_at (here x) rs) _
   by_outcome (asks.Add rd ra rb) =
-      by_data (word_at (here x) ra) _ (λ a. by_data (word_at (here x) rb) _ (λ b. by_holds (nat_lt (a + b) (2 ^ 64)) refusals.Overflow _ (plain rd (Data (a + b)) None)))
+      by_data no (word_at (here x) ra) _ (λ a. by_data no (word_at (here x) rb) _ (λ b. by_holds no (nat_lt (a + b) (2 ^ 64)) refusals.Overflow _ (λ _. plain rd (Data (a + b)) None)))
   by_outcome (asks.Read rd rs n) =
-      by_cap (word_at (here x) rs) _ (λ c. by_view f c rights.Read _ (λ v. by_holds (nat_lt n v.len) refusals.Range _ (plain rd (word_at (words_of f v.seg) (v.base + n)) _)))
+      by_cap no (word_at (here x) rs) _ (λ c _. by_view no f c rights.Read _ (λ v _ _. by_holds no (nat_lt n v.len) refusals.Range _ (λ _. plain rd (word_at (words_of f v.seg) (v.base + n)) _)))
   by_outcome (asks.Write rs n rv) =
-      by_cap (word_at (here x) rs) _ (λ c. by_view f c rights.Write _ (λ v. by_holds (nat_lt n v.len) refusals.Range _ (
-      by_none (barred v.guard.0 (word_at (here x) rv)) refusals.Guarded _ (changes_go (PutWord v.seg (v.base + n) (word_at (here x) rv) ∷ []) _ (omega arith)))))
+      by_cap no (word_at (here x) rs) _ (λ c _. by_view no f c rights.Write _ (λ v _ _. by_holds no (nat_lt n v.len) refusals.Range _ (λ _.
+      by_none no (barred v.guard.0 (word_at (here x) rv)) refusals.Guarded _ (λ _. changes_go (PutWord v.seg (v.base + n) (word_at (here x) rv) ∷ []) _ (omega arith)))))
   by_outcome (asks.Window rd rs base span) =
-      by_cap (word_at (here x) rs) _ (λ c. by_view f c rights.Window _ (λ v. by_holds (fits_in v base span) refusals.Range _ (
-      by_holds (nat_lt (size f.windows) 256) (refusals.Exhausted Windows) _ (
+      by_cap no (word_at (here x) rs) _ (λ c _. by_view no f c rights.Window _ (λ v _ _. by_holds no (fits_in v base span) refusals.Range _ (λ _.
+      by_holds no (nat_lt (size f.windows) 256) (refusals.Exhausted Windows) _ (λ _.
       word_goes (MakeWindow f.next (part_of v base span) ∷ Fresh ∷ []) rd (Cap (record { uid = f.next; rights = c.rights })) None (omega arith)))))
-  by_outcome (asks.Length rd rs) = by_cap (word_at (here x) rs) _ (λ c. by_view f c rights.Read _ (λ v. plain rd (Data v.len) None))
+  by_outcome (asks.Length rd rs) = by_cap no (word_at (here x) rs) _ (λ c _. by_view no f c rights.Read _ (λ v _ _. plain rd (Data v.len) None))
   by_outcome (asks.Lookup rd rs name) =
-      by_cap (word_at (here x) rs) _ (λ c. by_dir f c rights.Lookup _ (λ d. by_there (named d name) refusals.UnknownName _ (λ e. plain rd (Cap e.cap) _)))
+      by_cap no (word_at (here x) rs) _ (λ c _. by_dir no f c rights.Lookup _ (λ d _ _. by_there no (named d name) refusals.UnknownName _ (λ e _. plain rd (Cap e.cap) _)))
   by_outcome (asks.Bind rs name rv) =
-      by_cap (word_at (here x) rs) _ (λ c. by_cap (word_at (here x) rv) _ (λ v. by_dir f c rights.Bind _ (λ d.
-      by_none (barred d.guard.0 (Cap v)) refusals.Guarded _ (by_room d name _ (changes_go (Bind c.uid name v ∷ []) _ (omega arith))))))
+      by_cap no (word_at (here x) rs) _ (λ c _. by_cap no (word_at (here x) rv) _ (λ v _. by_dir no f c rights.Bind _ (λ d _ _.
+      by_none no (barred d.guard.0 (Cap v)) refusals.Guarded _ (λ _. by_room no d name _ (λ _ _. changes_go (Bind c.uid name v ∷ []) _ (omega arith))))))
   by_outcome (asks.Unbind rs name) =
-      by_cap (word_at (here x) rs) _ (λ c. by_dir f c rights.Unbind _ (λ d. by_there (named d name) refusals.UnknownName _ (λ e.
-      by_holds (not e.kept) refusals.Distinguished _ (changes_go (Unbind c.uid name ∷ []) None (omega arith)))))
-  by_outcome (asks.List rs) = by_cap (word_at (here x) rs) _ (λ c. by_dir f c rights.List _ (λ d. done _ (record { reply = refl; few = omega arith; effect = tt })))
+      by_cap no (word_at (here x) rs) _ (λ c _. by_dir no f c rights.Unbind _ (λ d _ _. by_there no (named d name) refusals.UnknownName _ (λ e _.
+      by_holds no (not e.kept) refusals.Distinguished _ (λ _. changes_go (Unbind c.uid name ∷ []) None (omega arith)))))
+  by_outcome (asks.List rs) = by_cap no (word_at (here x) rs) _ (λ c _. by_dir no f c rights.List _ (λ d _ _. done _ (record { reply = refl; few = omega arith; effect = tt })))
   by_outcome (asks.Impl rd rt ro) =
-      by_cap (word_at (here x) rt) _ (λ c. by_cap (word_at (here x) ro) _ (λ on. by_there (at f.types c.uid) (refusals.Absent kinds.Typ) _ (λ _.
-      by_holds (has c rights.Impl) (refusals.Lacks rights.Impl) _ (by_there (at f.objects on.uid) (refusals.Absent kinds.Object) _ (λ o.
-      by_holds (o.of == c.uid) refusals.WrongType _ (plain rd (Cap (full o.rep)) _))))))
+      by_cap no (word_at (here x) rt) _ (λ c _. by_cap no (word_at (here x) ro) _ (λ on _. by_there no (at f.types c.uid) (refusals.Absent kinds.Typ) _ (λ _ _.
+      by_holds no (has c rights.Impl) (refusals.Lacks rights.Impl) _ (λ _. by_there no (at f.objects on.uid) (refusals.Absent kinds.Object) _ (λ o _.
+      by_holds no (o.of == c.uid) refusals.WrongType _ (λ _. plain rd (Cap (full o.rep)) _))))))
   by_outcome (asks.MkSeg rd rs name size guard) =
-      by_cap (word_at (here x) rs) _ (λ c. by_holds (is_length size) refusals.Range _ (by_make f c name _ (by_makes f (MakeSegment f.next size (guard_of guard)) c name kinds.Segment [] rd refl (omega arith))))
+      by_cap no (word_at (here x) rs) _ (λ c _. by_holds no (is_length size) refusals.Range _ (λ _. by_make no f c name _ (λ _. by_makes f (MakeSegment f.next size (guard_of guard)) c name kinds.Segment [] rd refl (omega arith))))
   by_outcome (asks.MkDir rd rs name guard) =
-      by_cap (word_at (here x) rs) _ (λ c. by_make f c name _ (by_makes f (MakeDirectory f.next (f.next + 1) (guard_of guard)) c name kinds.Directory (Fresh ∷ []) rd refl (omega arith)))
+      by_cap no (word_at (here x) rs) _ (λ c _. by_make no f c name _ (λ _. by_makes f (MakeDirectory f.next (f.next + 1) (guard_of guard)) c name kinds.Directory (Fresh ∷ []) rd refl (omega arith)))
   by_outcome (asks.MkType rd rs name) =
-      by_cap (word_at (here x) rs) _ (λ c. by_make f c name _ (by_makes f (MakeType f.next) c name kinds.Typ [] rd refl (omega arith)))
+      by_cap no (word_at (here x) rs) _ (λ c _. by_make no f c name _ (λ _. by_makes f (MakeType f.next) c name kinds.Typ [] rd refl (omega arith)))
   by_outcome (asks.MkObj rd rt rs name size) =
-      by_cap (word_at (here x) rt) _ (λ t. by_cap (word_at (here x) rs) _ (λ c. by_holds (is_length size) refusals.Range _ (
-      by_object_room f _ (by_dir f c rights.Create _ (λ d. by_there (at f.types t.uid) (refusals.Absent kinds.Typ) _ (λ _. by_holds (has t rights.Make) (refusals.Lacks rights.Make) _ (
-      by_room d name _ (by_makes f (MakeObject f.next (record { of = t.uid; rep = f.next + 1 }) size) c name kinds.Object (Fresh ∷ []) rd refl (omega arith)))))))))
+      by_cap no (word_at (here x) rt) _ (λ t _. by_cap no (word_at (here x) rs) _ (λ c _. by_holds no (is_length size) refusals.Range _ (λ _.
+      by_object_room no f _ (λ _. by_dir no f c rights.Create _ (λ d _ _. by_there no (at f.types t.uid) (refusals.Absent kinds.Typ) _ (λ _ _. by_holds no (has t rights.Make) (refusals.Lacks rights.Make) _ (λ _.
+      by_room no d name _ (λ _ _. by_makes f (MakeObject f.next (record { of = t.uid; rep = f.next + 1 }) size) c name kinds.Object (Fresh ∷ []) rd refl (omega arith)))))))))
   by_outcome (asks.MkCode rd rs name label rl) =
-      by_cap (word_at (here x) rs) _ (λ c. by_none (barred 1 (word_at (here x) rl)) refusals.Guarded _ (by_make f c name _ (done _ (record { reply = refl; few = omega arith; effect = tt }))))
+      by_cap no (word_at (here x) rs) _ (λ c _. by_none no (barred 1 (word_at (here x) rl)) refusals.Guarded _ (λ _. by_make no f c name _ (λ _. done _ (record { reply = refl; few = omega arith; effect = tt }))))
   by_outcome (asks.Delete rs name) =
-      by_cap (word_at (here x) rs) _ (λ c. by_dir f c rights.Delete _ (λ d. by_there (named d name) refusals.UnknownName _ (λ e. by_holds e.kept refusals.NotDistinguished _ (
-      by_there (at f.life e.cap.uid) refusals.NotDistinguished _ (λ kind. by_drops f kind e.cap.uid (Unregister e.cap.uid c.uid name ∷ []) (omega arith))))))
+      by_cap no (word_at (here x) rs) _ (λ c _. by_dir no f c rights.Delete _ (λ d _ _. by_there no (named d name) refusals.UnknownName _ (λ e _. by_holds no e.kept refusals.NotDistinguished _ (λ _.
+      by_there no (at f.life e.cap.uid) refusals.NotDistinguished _ (λ kind _. by_drops f kind e.cap.uid (Unregister e.cap.uid c.uid name ∷ []) (omega arith))))))
   by_outcome (asks.Send rp rv) =
-      by_cap (word_at (here x) rp) _ (λ c. by_there (at f.boxes c.uid) (refusals.Absent kinds.Process) _ (λ box. by_holds (has c rights.Send) (refusals.Lacks rights.Send) _ (
-      by_none (barred 1 (word_at (here x) rv)) refusals.Guarded _ (by_holds (nat_lt (length box) 8) (refusals.Exhausted Mailbox) _ (changes_go (Post c.uid (word_at (here x) rv) ∷ []) _ (omega arith))))))
-  by_outcome (asks.Recv rd) = by_there (at f.boxes x.process) refusals.Empty _ (λ box. by_received x.process rd box)
+      by_cap no (word_at (here x) rp) _ (λ c _. by_there no (at f.boxes c.uid) (refusals.Absent kinds.Process) _ (λ box _. by_holds no (has c rights.Send) (refusals.Lacks rights.Send) _ (λ _.
+      by_none no (barred 1 (word_at (here x) rv)) refusals.Guarded _ (λ _. by_holds no (nat_lt (length box) 8) (refusals.Exhausted Mailbox) _ (λ _. changes_go (Post c.uid (word_at (here x) rv) ∷ []) _ (omega arith))))))
+  by_outcome (asks.Recv rd) = by_there no (at f.boxes x.process) refusals.Empty _ (λ box _. by_received x.process rd box)
   by_outcome (asks.Call rp) =
-      by_cap (word_at (here x) rp) _ (λ c. by_test (nat_lt (length x.frames) 4) (refusals.Exhausted Frames) _ (λ frames. by_test (nat_le (x.charge + 16) 4096) (refusals.Exhausted Requests) _ (λ charge.
-      by_row (at f.codes c.uid) (refusals.Absent kinds.Code) _ (λ code live. by_holds (has c rights.Enter) (refusals.Lacks rights.Enter) _ (
+      by_cap no (word_at (here x) rp) _ (λ c _. by_holds no (nat_lt (length x.frames) 4) (refusals.Exhausted Frames) _ (λ frames. by_holds no (nat_le (x.charge + 16) 4096) (refusals.Exhausted Requests) _ (λ charge.
+      by_there no (at f.codes c.uid) (refusals.Absent kinds.Code) _ (λ code live. by_holds no (has c rights.Enter) (refusals.Lacks rights.Enter) _ (λ _.
       let label : HasLabel f code.label = record { record_uid = c.uid; code = code; live = live; label-is = refl } in
       done _ (record { reply = refl; few = omega arith; effect = (ltb-true (length x.frames) 4 frames, leb-true (x.charge + 16) 4096 charge, label) }))))))
   by_outcome (asks.Path rs) =
-      by_cap (word_at (here x) rs) _ (λ c. by_test (nat_lt (length x.path) 4) (refusals.Exhausted Path) _ (λ few. by_dir f c rights.Lookup _ (λ d.
+      by_cap no (word_at (here x) rs) _ (λ c _. by_holds no (nat_lt (length x.path) 4) (refusals.Exhausted Path) _ (λ few. by_dir no f c rights.Lookup _ (λ d _ _.
       done _ (record { reply = refl; few = omega arith; effect = ltb-true (length x.path) 4 few }))))
-  by_outcome (asks.Find rd name) = by_find f x.path rd name
+  by_outcome (asks.Find rd name) = by_find no f rd name x.path (λ i dir at_i d live may e there. plain rd (Cap e.cap) _)

@@ -13,8 +13,8 @@ use Rattle.psos_model.specs.Laws.{numbers}
 use Rattle.psos_model.proofs.AnswerBounds.{at_most_two}
 use Rattle.psos_model.proofs.Orders.{run_append, answers_more, legal_more, serial_more, serial_legal}
 use Rattle.psos_print.specs.Line.{answered_in}
-use Rattle.psos_laws.proofs.SharedSound.{answers_kept}
-use Rattle.psos_laws.proofs.BootSound.{boot_sound, boot_start}
+use Rattle.psos_laws.proofs.SoundRuns.{answers_kept}
+use Rattle.psos_laws.proofs.BootSoundness.{boot_sound, boot_start}
 use Rattle.psos_laws.proofs.OrderLengths.{orders_end}
 use Rattle.psos_model.specs.Run.SerialOrder.{IsFirst, IsSerialFrom}
 use Rattle.psos_rows.specs.Serial.{IsSerialRun, order_in}

@@ -1,4 +1,4 @@
-use Rattle.psos_laws.proofs.BootSound.{boot_start}
+use Rattle.psos_laws.proofs.BootSoundness.{boot_start}
 use Rattle.psos_laws.proofs.CompleteOrders.{all_from}
 use Rattle.psos_laws.proofs.orders.complete_orders_have_all.Goals as goal
 

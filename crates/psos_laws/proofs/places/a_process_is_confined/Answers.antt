@@ -1,4 +1,4 @@
-use Rattle.psos_laws.proofs.BootConfined.{a_process_is_confined}
+use Rattle.psos_laws.proofs.ProcessConfinement.{a_process_is_confined}
 use Rattle.psos_laws.proofs.places.a_process_is_confined.Goals as goal
 
 pub returns : goal.returns

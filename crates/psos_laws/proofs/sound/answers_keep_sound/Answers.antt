@@ -1,4 +1,4 @@
-use Rattle.psos_laws.proofs.SharedSound.{answers_kept}
+use Rattle.psos_laws.proofs.SoundRuns.{answers_kept}
 use Rattle.psos_laws.proofs.sound.answers_keep_sound.Goals as goal
 
 pub returns : goal.returns

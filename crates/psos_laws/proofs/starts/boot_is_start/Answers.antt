@@ -1,4 +1,4 @@
-use Rattle.psos_laws.proofs.BootSound.{boot_start}
+use Rattle.psos_laws.proofs.BootSoundness.{boot_start}
 use Rattle.psos_laws.proofs.starts.boot_is_start.Goals as goal
 
 pub returns : goal.returns

@@ -1,5 +1,5 @@
 // Changes under which the levels go on to stand for the flat state.
-ghost use Rattle.psos_agree.specs.Frames.{SlotsAreLeft, SegmentsAreMade, SegmentsGo, ObjectsAreMade, ObjectsGo, DirectoriesAreMade, DirectoriesGo, EntriesAreAdded, EntriesAreRemoved};
+ghost use Rattle.psos_agree.specs.Standing.{SlotsAreLeft, SegmentsAreMade, SegmentsGo, ObjectsAreMade, ObjectsGo, DirectoriesAreMade, DirectoriesGo, EntriesAreAdded, EntriesAreRemoved};
 
 /// Where one more user object fits into a sound state, a slot of pages is free (docs/levels.md, "Pages and slots").
 pub fn slots_are_left()

@@ -1,5 +1,5 @@
 use Rattle.psos_agree.proofs.EntryWriting.{stands_entry, stands_no_entry}
-use Rattle.psos_agree.proofs.frames.entries_stand.Goals as goal
+use Rattle.psos_agree.proofs.stands.entries_stand.Goals as goal
 
 pub returns-clause-added : goal.returns-clause-added
 returns-clause-added c = λ y f d x slot slots k e h live single r free new named. stands_entry h d x live slot slots r single k e free new named

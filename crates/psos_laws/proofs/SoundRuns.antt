@@ -6,7 +6,7 @@ use Rattle.psos_model.specs.Answer.{answer}
 use Rattle.psos_model.specs.Sound.{IsSound}
 use Rattle.psos_model.specs.Laws.{AnswersKeepSound, RunsKeepSound}
 use Rattle.psos_laws.specs.SoundParts.{IsSoundUsers, IsSoundPlaces, IsSoundShared}
-use Rattle.psos_laws.proofs.UsersSound.{users_kept}
+use Rattle.psos_laws.proofs.UserSoundness.{users_kept}
 use Rattle.psos_laws.proofs.PlaceGuards.{places_kept}
 use Rattle.psos_laws.proofs.SharedAnswers.{shared_kept}
 

@@ -1,5 +1,5 @@
 use Rattle.psos_agree.proofs.ObjectsStand.{stands_object_made, stands_object_gone}
-use Rattle.psos_agree.proofs.frames.objects_stand.Goals as goal
+use Rattle.psos_agree.proofs.stands.objects_stand.Goals as goal
 
 pub returns-clause-made : goal.returns-clause-made
 returns-clause-made c = λ y f u o len h new room few. stands_object_made h u o len new room few

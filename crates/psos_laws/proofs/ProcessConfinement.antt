@@ -24,12 +24,12 @@ use Rattle.psos_model.specs.Answer.Outcomes.{own}
 use Rattle.psos_model.specs.Answer.{answer}
 use Rattle.psos_model.specs.Flat.Boot.{boot, boot_user, boot_users, boot_regs, process_of, home_rep_of, scratch_of}
 use Rattle.psos_laws.specs.Landings.{Landing, lands, found}
-use Rattle.psos_laws.specs.History.{Event, event_by}
+use Rattle.psos_laws.specs.History.{Transition, transition_by}
 use Rattle.psos_laws.specs.Laws.{all_but_bit_0, AProcessIsConfined}
 use Rattle.psos_laws.proofs.StepLaws.{Step}
-use Rattle.psos_laws.proofs.AnswerSteps.{event_of, answer_steps}
+use Rattle.psos_laws.proofs.AnswerSteps.{transition_of, answer_steps}
 use Rattle.psos_laws.proofs.PlaceGuards.{Came, came}
-use Rattle.psos_laws.proofs.BootSound.{boot_start}
+use Rattle.psos_laws.proofs.BootSoundness.{boot_start}
 use Rattle.psos_laws.proofs.BootSoundUsers.{boot_user_is}
 use Rattle.psos_laws.proofs.BootSoundPlaces.{IsBootRow, RootRow, HomeRow, directory_row, segment_row, box_row, home_entry, root_has, no_cap, by_row, by_entry}
 
@@ -108,14 +108,14 @@ first_user : (users : List UserScript) → 1 ≤ length users → (text : UserSc
 first_user [] some = absurd (omega (arith, some))
 first_user (text ∷ users) some = (text, refl)
 
-abbrev TheEvent : Script → Event
-TheEvent s = record { flat = boot s; user = 0; landings = the_landing ∷ []; moved = λ p. p }
+abbrev TheTransition : Script → Transition
+TheTransition s = record { flat = boot s; user = 0; landings = the_landing ∷ []; moved = λ p. p }
 
-is_the_event : (s : Script) → IsWellFormed s → slice_get (requests_of (user_script s 0)) 0 ≡ Some (Restrict 1 1 all_but_bit_0) → event_of s (boot s) 0 (slice_get (boot s).users 0) ≡ TheEvent s
+is_the_transition : (s : Script) → IsWellFormed s → slice_get (requests_of (user_script s 0)) 0 ≡ Some (Restrict 1 1 all_but_bit_0) → transition_of s (boot s) 0 (slice_get (boot s).users 0) ≡ TheTransition s
 unfolding the_landing
-is_the_event s formed asked =
+is_the_transition s formed asked =
     let first = first_user s.users formed.some_users in
-    ap (event_of s (boot s) 0) first.1 ∙ ap (event_by s (boot s) 0 (boot_user 0 first.0)) asked
+    ap (transition_of s (boot s) 0) first.1 ∙ ap (transition_by s (boot s) 0 (boot_user 0 first.0)) asked
 
 found_one : (l k : Landing) (p : Place) → found (l ∷ []) p ≡ Some k → l ≡ k
 found_one l k p e = by_test (same_place p l.place) e
@@ -150,8 +150,8 @@ module _ (s : Script) (g : Flat) (st : Step (boot s) g 0 (the_landing ∷ []) (�
 pub a_process_is_confined : AProcessIsConfined
 a_process_is_confined s formed asked =
     let g = (answer s (boot s) 0).0 in
-    let P : Event → Type 0 = λ e. Step (boot s) g 0 e.landings e.moved in
-    let st : P (TheEvent s) = subst P (is_the_event s formed asked) (answer_steps s (boot s) 0 (boot_start s formed).sound) in
+    let P : Transition → Type 0 = λ e. Step (boot s) g 0 e.landings e.moved in
+    let st : P (TheTransition s) = subst P (is_the_transition s formed asked) (answer_steps s (boot s) 0 (boot_start s formed).sound) in
     record {
       below = omega (arith, st.later, formed.some_users);
       kept = λ p c e same bit wanted has. kept_by_step s g st p c e same;
