@@ -16,7 +16,7 @@ use Rattle.psos_text.specs.declared.name.Name.{Name}
 use Rattle.psos_text.specs.Name.{IsName}
 use Rattle.psos_words.specs.declared.word.Word.{Word}
 use Rattle.psos_words.specs.Directory.{Entry, Slot, Never, Gone, Used, Found, decode, find, find_from, slot_for, same_name, entry_words, gone_words}
-use Rattle.psos_dirrep.specs.Written.{with_words}
+use Rattle.psos_dirrep.specs.Replacement.{with_words}
 use Rattle.psos_dirrep.proofs.SlotChanges.{free-at, free-within}
 use Rattle.psos_dirrep.proofs.Directories.{decoded, written-length}
 use Rattle.psos_dirrep.proofs.EntryChanges.{entry-added, entry-removed}

@@ -4,8 +4,6 @@
 mod class;
 mod counted;
 mod counts;
-#[cfg(test)]
-mod tests;
 
 pub use class::Class;
 pub use counted::Counted;

@@ -11,7 +11,7 @@ use Rattle.psos_words.specs.declared.word.Word.{Word}
 use Rattle.psos_words.specs.declared.word.Word.TheVariants.{Data, Cap}
 use Rattle.psos_words.specs.Words.{zeros}
 use Rattle.psos_words.specs.Directory.{Slot, Used, mark_of, name_from, name_high, name_low, slot_of, slots_of, used_slot, are_never, are_in_order, are_apart, entry_slots, decode}
-use Rattle.psos_dirrep.specs.Written.{with_words}
+use Rattle.psos_dirrep.specs.Replacement.{with_words}
 use Rattle.psos_dirrep.proofs.NameBytes.{name_of_halves, name_is_filled}
 use Rattle.psos_dirrep.proofs.Slots.{slots-split, slots-cons}
 

@@ -10,7 +10,7 @@ use Rattle.psos_words.specs.declared.word.Word.{Word}
 use Rattle.psos_words.specs.declared.word.Word.TheVariants.{Data, Cap}
 use Rattle.psos_words.specs.Directory.{Entry, Slot, Never, Gone, Used, Found, same_name, mark_of, name_high, name_low, slot_of, are_never, are_in_order, are_apart, has_name, entry_words, gone_words, find_from, free_from}
 use Rattle.psos_dirrep.specs.Changes.{HasRoom, HasAdded, HasEntry, HasRemoved}
-use Rattle.psos_dirrep.specs.Written.{with_words}
+use Rattle.psos_dirrep.specs.Replacement.{with_words}
 use Rattle.psos_dirrep.proofs.NameBytes.{bytes_differ}
 use Rattle.psos_dirrep.proofs.SlotChanges.{or_parts, not-true, free-at, free-within, order-added, apart-added, found-added, others-added, order-removed, apart-removed, gone-removed, others-removed}
 use Rattle.psos_dirrep.proofs.SlotSearch.{never-find}

@@ -8,10 +8,11 @@ use Rattle.psos_text.specs.declared.name.Name.{Name}
 use Rattle.psos_text.specs.Name.{IsName}
 use Rattle.psos_words.specs.declared.word.Word.{Word}
 use Rattle.psos_words.specs.declared.word.Word.TheVariants.{Data, Cap}
-use Rattle.psos_words.specs.Directory.{Slot, Never, Gone, Used, Found as SlotFound, mark_of, name_from, name_high, name_low, slots_of, same_name, are_never, are_in_order, found_here, find_from, free_from}
+use Rattle.psos_words.specs.Directory.{Slot, Never, Gone, Used, Found as SlotFound, mark_of, name_from, name_high, name_low, slots_of, same_name, are_never, are_in_order, found_here, find, find_from, free_from}
 use Rattle.psos_dirrep.specs.declared.found.Found.{Found}
 use Rattle.psos_dirrep.specs.declared.look.Look.TheVariants.{Pass, Here}
 use Rattle.psos_dirrep.specs.Entries.{as_found}
+use Rattle.psos_dirrep.specs.Pages.{slots_in, AreSlots}
 use Rattle.psos_dirrep.specs.Scan.{looked, scanned, scan, scan_free, is_free}
 use Rattle.psos_dirrep.proofs.NameBytes.{name_of_halves}
 use Rattle.psos_dirrep.proofs.Slots.{by_slot, slots-split}
@@ -92,3 +93,8 @@ scan-free k (a ∷ b ∷ c ∷ d ∷ rest) slots e =
     let later = scan-free (k + 1) rest s.later s.after in
     let P : Word → Word → Word → Word → Slot → Type 0 = λ a b c d slot. scan_free k (a ∷ b ∷ c ∷ d ∷ rest) ≡ free_from k (slot ∷ s.later) in
     subst (λ (l : List Slot). scan_free k (a ∷ b ∷ c ∷ d ∷ rest) ≡ free_from k l) (sym s.is) (by_slot P refl refl (λ h l cap kept filled. free_used k kept (scan_free (k + 1) rest) ∙ later) a b c d s.slot s.here)
+
+-- the entry of a name on a page, by the two numbers of the name
+pub page-find : (high low : ℕ) (name : Name) (page : List Word) → IsName name → high ≡ name_high name → low ≡ name_low name → AreSlots page → option_map as_found (find (slots_in page) name) ≡ scan 0 high low page
+page-find high low name page named is too h =
+    sym (ap (λ (x : ℕ). scan 0 x low page) is ∙ ap (λ (x : ℕ). scan 0 (name_high name) x page) too ∙ scan-find 0 name page (slots_in page) named h.slots h.in_order)

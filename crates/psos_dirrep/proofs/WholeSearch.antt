@@ -28,15 +28,15 @@ list-slots pages e = all-slots pages (λ i page at. pages-slots pages (entry_lis
 pub list-find : (pages : List (List Word)) (name : Name) → IsEntryList pages → find_on 0 pages name ≡ find (entry_list (words_of pages)) name
 list-find pages name e = sym (pages-names pages (entry_list (words_of pages)) name e.are e.few e.list)
 
--- what is found on the first page, or later
-pub found-here : (here later : Option SlotFound) (base : ℕ) (found : Found) → option_map as_found here ≡ Some found
-    → ◌≡◌ {A = Option Found} (Some (record { slot = base + found.slot; cap = found.cap; kept = found.kept })) (option_map as_found (or_else (option_map (moved base) here) later))
-found-here None later base found e = absurd (none-some found e)
-found-here (Some f) later base found e = ap (λ (x : Found). (let y : Found = record { slot = base + x.slot; cap = x.cap; kept = x.kept } in Some y)) (sym (same_Some (as_found f) found e))
+-- what is found on a page is found in the directory by its first slot
+pub found-moved : (here : Option SlotFound) (base : ℕ) (found : Found) → option_map as_found here ≡ Some found
+    → ◌≡◌ {A = Option Found} (Some (record { slot = base + found.slot; cap = found.cap; kept = found.kept })) (option_map as_found (option_map (moved base) here))
+found-moved None base found e = absurd (none-some found e)
+found-moved (Some f) base found e = ap (λ (x : Found). (let y : Found = record { slot = base + x.slot; cap = x.cap; kept = x.kept } in Some y)) (sym (same_Some (as_found f) found e))
 
-pub found-later : (here later : Option SlotFound) (base : ℕ) (rest : Option Found) → option_map as_found here ≡ None → rest ≡ option_map as_found later → rest ≡ option_map as_found (or_else (option_map (moved base) here) later)
-found-later None later base rest e is = is
-found-later (Some f) later base rest e is = absurd (none-some (as_found f) (sym e))
+pub none-moved : (here : Option SlotFound) (base : ℕ) → option_map as_found here ≡ None → ◌≡◌ {A = Option Found} None (option_map as_found (option_map (moved base) here))
+none-moved None base e = refl
+none-moved (Some f) base e = absurd (none-some (as_found f) (sym e))
 
 -- ---- places
 
@@ -89,12 +89,3 @@ list-slot pages e =
     by : (l : List Slot) (o : Option ℕ) → free_from 0 l ≡ o → entry_slot o ≡ free_from 0 (take 127 l)
     by l None is = sym (free-none 0 127 l is)
     by l (Some m) is = sym (free-taken m l (free-at 0 m l (is ∙ ap (λ (n : ℕ). Some n) {x = m} {y = 0 + m} (omega arith))))
-
--- what is free on the first page, or later
-pub free-here : (here later : Option ℕ) (base k : ℕ) → here ≡ Some k → ◌≡◌ {A = Option ℕ} (Some (base + k)) (or_else (option_map (λ i. base + i) here) later)
-free-here None later base k e = absurd (none-some k e)
-free-here (Some f) later base k e = ap (λ (i : ℕ). Some (base + i)) (sym (same_Some f k e))
-
-pub free-later : (here later : Option ℕ) (base : ℕ) (rest : Option ℕ) → here ≡ None → rest ≡ later → rest ≡ or_else (option_map (λ i. base + i) here) later
-free-later None later base rest e is = is
-free-later (Some f) later base rest e is = absurd (none-some f (sym e))

@@ -17,6 +17,12 @@ pub record IsEntryList (pages : List (List Word)) : Type 0 where
   pub few : length pages ≤ 8
   pub list : decode (words_of pages) ≡ Some (entry_list (words_of pages))
 
+-- at most eight pages that are a directory with these entry slots
+pub record AreDirectory (pages : List (List Word)) (slots : List Slot) : Type 0 where
+  pub are : ArePages pages
+  pub few : length pages ≤ 8
+  pub decoded : decode (words_of pages) ≡ Some slots
+
 -- the last of 128 slots was never used, or is not on these pages
 abbrev pub ends_never : List (List Word) → Bool
 ends_never pages = if nat_lt (length pages) 8 then true else is_never (word_at (words_of pages) 508)

@@ -1,7 +1,7 @@
 pub mod Entries
 pub mod Pages
 pub mod Scan
-pub mod Written
+pub mod Replacement
 pub mod Changes
 pub mod Lists
 pub mod EntryLists

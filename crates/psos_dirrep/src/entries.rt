@@ -66,14 +66,10 @@ fn find_from(pages: &[Page], base: u8, name: &Name) -> Option<Found>
     let Some((page, rest)) = pages.split_first() else {
         return None;
     };
-    if let Some(found) = find_on(page, name) {
-        return Some(Found {
-            slot: base + found.slot,
-            cap: found.cap,
-            kept: found.kept,
-        });
+    match find_on(page, base, name) {
+        Some(found) => Some(found),
+        None => find_from(rest, base + 16, name),
     }
-    find_from(rest, base + 16, name)
 }
 
 /// The least slot that is not used. None exactly where all 127 are.
@@ -83,8 +79,8 @@ pub fn slot_for(entries: &Entries127<'_>) -> Option<u8>
     entry_slot(place(entries.pages))
 }
 
-// The last of 128 slots is never an entry's.
-fn entry_slot(place: Option<u8>) -> Option<u8>
+/// A slot that is not used, if it may hold an entry: the last of 128 slots is never an entry's.
+pub fn entry_slot(place: Option<u8>) -> Option<u8>
     ensures { result ≡ entry_slot place }
 {
     match place {
@@ -118,10 +114,10 @@ fn free_from(pages: &[Page], base: u8) -> Option<u8>
     let Some((page, rest)) = pages.split_first() else {
         return None;
     };
-    if let Some(k) = free_on(page) {
-        return Some(base + k);
+    match free_on(page, base) {
+        Some(k) => Some(k),
+        None => free_from(rest, base + 16),
     }
-    free_from(rest, base + 16)
 }
 
 impl<'a> Entries127<'a> {

@@ -1,12 +1,13 @@
 // What the words of a directory tell, page by page, and what writing one slot changes.
-ghost use Rattle.std.specs.Prelude.{◌≡◌, ℕ, ◌*◌, ◌≤◌, List, ◌++◌, ◌||◌, length, slice_get, Some, IsTrue};
+ghost use Rattle.std.specs.Prelude.{◌≡◌, ℕ, ◌*◌, List, ◌++◌, ◌||◌, length, slice_get, Some, IsTrue};
 ghost use Rattle.std.specs.List.{list_any};
 ghost use Rattle.psos_text.specs.declared.name.Name.{Name as Value};
 ghost use Rattle.psos_words.specs.declared.word.Word.{Word};
 ghost use Rattle.psos_words.specs.Directory.{Entry, Slot, slots_of, decode, has_never, find, slot_for, entry_words, gone_words};
 ghost use Rattle.psos_dirrep.specs.Changes.{IsWhole, HasRoom, HasAdded, HasEntry, HasRemoved};
-ghost use Rattle.psos_dirrep.specs.Pages.{words_of, ArePages, AreSlots, find_on, slot_on, entry_slot, was_never};
-ghost use Rattle.psos_dirrep.specs.Written.{with_words};
+ghost use Rattle.psos_dirrep.specs.EntryLists.{AreDirectory};
+ghost use Rattle.psos_dirrep.specs.Pages.{words_of, AreSlots, find_on, slot_on, entry_slot, was_never};
+ghost use Rattle.psos_dirrep.specs.Replacement.{with_words};
 
 /// A law, and no work: the words of a new entry, written into the least slot that is not used, add that entry and no
 /// other.
@@ -28,9 +29,9 @@ pub fn a_front_is_the_whole()
 /// directory tells. Each of them is slots in order; and where one has a slot that was never used, they also tell the
 /// least slot that is not used.
 pub fn pages_are_the_whole()
-    ensures names { (pages : List (List Word)) (slots : List Slot) (name : Value) → ArePages pages → length pages ≤ 8 → decode (words_of pages) ≡ Some slots → find slots name ≡ find_on 0 pages name }
-    ensures places { (pages : List (List Word)) (slots : List Slot) → ArePages pages → length pages ≤ 8 → decode (words_of pages) ≡ Some slots → IsTrue (has_never (words_of pages)) → slot_for slots ≡ entry_slot (slot_on 0 pages) }
-    ensures each { (pages : List (List Word)) (slots : List Slot) (i : ℕ) (page : List Word) → ArePages pages → length pages ≤ 8 → decode (words_of pages) ≡ Some slots → slice_get pages i ≡ Some page → AreSlots page }
+    ensures names { (pages : List (List Word)) (slots : List Slot) (name : Value) → AreDirectory pages slots → find slots name ≡ find_on 0 pages name }
+    ensures places { (pages : List (List Word)) (slots : List Slot) → AreDirectory pages slots → IsTrue (has_never (words_of pages)) → slot_for slots ≡ entry_slot (slot_on 0 pages) }
+    ensures each { (pages : List (List Word)) (slots : List Slot) (i : ℕ) (page : List Word) → AreDirectory pages slots → slice_get pages i ≡ Some page → AreSlots page }
 {}
 
 /// A law, and no work: words tell of a slot that was never used exactly where one of their slots is; and of two lists

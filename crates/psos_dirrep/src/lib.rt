@@ -1,4 +1,8 @@
 //! Directories in the words of their representations: what is read, what is looked for, and what is written.
+//!
+//! Plans look page by page (`find_on`, `free_on`, `has_never`) and write slots (`entry_words`, `gone_words`). `decode`,
+//! `Entries127`, `find` and `slot_for` are for readers of whole directories, which no plan is: the program
+//! `psos_samples` shows them.
 #![tactic(auto)]
 
 mod dir_entry;
@@ -11,16 +15,15 @@ mod lists;
 mod look;
 mod names;
 mod page;
-#[cfg(test)]
-mod tests;
-mod written;
+mod slot_words;
 
 pub use dir_entry::DirEntry;
-pub use entries::{Entries127, decode, find, slot_for};
+pub use entries::{Entries127, decode, entry_slot, find, slot_for};
 pub use found::Found;
 pub use laws::{
     a_front_is_the_whole, an_entry_is_added, an_entry_is_removed, never_used_is_seen,
     pages_are_the_whole,
 };
+pub use names::name_from;
 pub use page::{find_on, free_on, has_never};
-pub use written::{entry_words, gone_words};
+pub use slot_words::{entry_words, gone_words};

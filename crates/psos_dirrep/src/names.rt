@@ -1,19 +1,30 @@
-// A name by its two numbers.
-ghost use Rattle.std.specs.Prelude.{◌≡◌, ◌==◌, ◌++◌, ◌≤◌, if◌then◌else◌, length, Some, None, IfSome};
+// Names by their two numbers.
+ghost use Rattle.std.specs.Prelude.{◌≡◌, ◌==◌, ◌++◌, ◌≤◌, if◌then◌else◌, length, Ok, Err, Some, None, IfOk, IsTrue};
 ghost use Rattle.std.specs.Int.{w64, to_be_bytes};
 ghost use Rattle.std.specs.List.{position_or_len, before_first};
-ghost use Rattle.psos_text.specs.Name.{IsName};
+ghost use Rattle.psos_text.specs.Name.{is_name, name_of, name_text, IsName};
 ghost use Rattle.psos_words.specs.Directory.{is_filled_name, name_from};
 
 use crate::halves::halves;
-use psos_text::Name;
+use psos_text::{Name, TextFault};
+
+/// The name whose bytes are two numbers, the highest byte first (docs/system.md, "Words in blocks and directories").
+/// There is such a name, filled up with zeros.
+pub fn name_from(high: u64, low: u64) -> Name
+    requires { IsTrue (is_filled_name (name_from high low)) }
+    ensures { result ≡ name_from high low }
+{
+    match read(high, low) {
+        Ok(name) => name,
+        Err(_) => unreachable!(),
+    }
+}
 
 // The name with these two numbers, if it is one that is filled up with zeros.
 pub(crate) fn filled(high: u64, low: u64) -> Option<Name>
     ensures { result ≡ (if is_filled_name (name_from high low) then Some (name_from high low) else None) }
 {
-    let bytes = sixteen(high, low);
-    let Ok(name) = Name::read(text_of(&bytes)) else {
+    let Ok(name) = read(high, low) else {
         return None;
     };
     let (first, second) = halves(&name);
@@ -31,6 +42,15 @@ pub(crate) fn is_filled(high: u64, low: u64) -> bool
     ensures { result ≡ is_filled_name (name_from high low) }
 {
     filled(high, low).is_some()
+}
+
+// The name whose text stands before the first zero in the bytes of two numbers.
+fn read(high: u64, low: u64) -> Result<Name, TextFault>
+    ensures value { result ≡ (if is_name (name_text (name_from high low)) then Ok (name_of (name_text (name_from high low))) else Err TextFault.Name) }
+    ensures name { IfOk result IsName }
+{
+    let bytes = sixteen(high, low);
+    Name::read(text_of(&bytes))
 }
 
 // The bytes of two numbers, the highest first.

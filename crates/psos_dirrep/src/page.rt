@@ -1,9 +1,9 @@
 // One page of a directory.
-ghost use Rattle.std.specs.Prelude.{◌≡◌, ◌<◌, option_map, IfSome};
+ghost use Rattle.std.specs.Prelude.{◌≡◌, ◌+◌, ◌<◌, ◌≤◌, option_map, IfSome};
 ghost use Rattle.psos_text.specs.Name.{IsName};
 ghost use Rattle.psos_words.specs.Directory.{has_never, find, slot_for};
 ghost use Rattle.psos_dirrep.specs.Entries.{as_found};
-ghost use Rattle.psos_dirrep.specs.Pages.{slots_in, AreSlots};
+ghost use Rattle.psos_dirrep.specs.Pages.{moved, slots_in, AreSlots};
 ghost use Rattle.psos_dirrep.specs.Scan.{scan, scan_free, is_free, is_never};
 
 use crate::Found;
@@ -25,23 +25,36 @@ pub fn has_never(page: &Page) -> bool
     false
 }
 
-/// The entry of a name on one page of a directory, with its slot on this page, from 0 to 15. None exactly where no
-/// entry on the page has the name. It stops at the first slot that was never used.
-pub fn find_on(page: &Page, name: &Name) -> Option<Found>
-    requires { IsName name.now }
-    ensures found { AreSlots page.now → result ≡ option_map as_found (find (slots_in page.now) name.now) }
-    ensures small { IfSome result (λ found. found.slot < 16) }
+/// The entry of a name on one page of a directory, which begins with entry slot `base`. None exactly where no entry on
+/// the page has the name. It stops at the first slot that was never used.
+pub fn find_on(page: &Page, base: u8, name: &Name) -> Option<Found>
+    requires named { IsName name.now }
+    requires within { base ≤ 240 }
+    ensures found { AreSlots page.now → result ≡ option_map as_found (option_map (moved base) (find (slots_in page.now) name.now)) }
+    ensures near { IfSome result (λ found. found.slot < base + 16) }
 {
     let (high, low) = halves(name);
-    scan(page, high, low)
+    match scan(page, high, low) {
+        Some(found) => Some(Found {
+            slot: base + found.slot,
+            cap: found.cap,
+            kept: found.kept,
+        }),
+        None => None,
+    }
 }
 
-/// The least slot of one page of a directory that is not used, from 0 to 15. None exactly where all 16 are used.
-pub fn free_on(page: &Page) -> Option<u8>
-    ensures place { AreSlots page.now → result ≡ slot_for (slots_in page.now) }
-    ensures small { IfSome result (λ k. k < 16) }
+/// The least slot that is not used on one page of a directory, which begins with entry slot `base`. None exactly where
+/// all 16 are used.
+pub fn free_on(page: &Page, base: u8) -> Option<u8>
+    requires { base ≤ 240 }
+    ensures place { AreSlots page.now → result ≡ option_map (λ i. base + i) (slot_for (slots_in page.now)) }
+    ensures near { IfSome result (λ k. k < base + 16) }
 {
-    scan_free(page)
+    match scan_free(page) {
+        Some(k) => Some(base + k),
+        None => None,
+    }
 }
 
 // The entry of the name with these two numbers.

@@ -3,7 +3,5 @@
 
 mod line;
 mod script;
-#[cfg(test)]
-mod tests;
 
 pub use script::script_text;

@@ -5,19 +5,16 @@ use Rattle.std.specs.BTreeSet.{insert_key}
 use Rattle.std.specs.Ordering.{match_ordering}
 use Rattle.std.specs.FinMap.{IsAntisymmetric, nat_cmp-IsAntisymmetric, slice_cmp-IsAntisymmetric}
 use Rattle.std.specs.List.{list_any, AllByRecursion}
-use Rattle.std.specs.Str.{bytes_eq}
 use Rattle.std.specs.declared.cmp.Ordering.{Ordering}
 use Rattle.std.specs.declared.cmp.Ordering.TheVariants.{Less, Equal, Greater}
-use Rattle.std.proofs.lemmas.Bool.{true≢false, and_parts}
+use Rattle.std.proofs.lemmas.Bool.{true≢false}
 use Rattle.std.proofs.lemmas.List.{length-replicate, get_or-drop, take-append-drop}
 use Rattle.std.proofs.lemmas.Option.{same_Some}
-use Rattle.std.proofs.lemmas.Slice.Eq.{bytes_eq-Decides}
 use Rattle.psos_text.specs.declared.name.Name.{Name}
-use Rattle.psos_text.specs.Name.{is_name, name_of, name_text, padded}
 use Rattle.psos_words.specs.declared.word.Word.{Word}
 use Rattle.psos_words.specs.declared.word.Word.TheVariants.{Data, Cap}
 use Rattle.psos_words.specs.Words.{zeros, word_at}
-use Rattle.psos_words.specs.Directory.{Entry, Slot, Never, Gone, Used, same_name, is_filled_name, slot_of, slots_of, has_name, are_never, are_apart, decode, entries_in}
+use Rattle.psos_words.specs.Directory.{Entry, Slot, Never, Gone, Used, same_name, slot_of, slots_of, has_name, are_never, are_apart, decode, entries_in}
 use Rattle.psos_dirrep.specs.EntryLists.{entry_list, IsEntryList}
 use Rattle.psos_dirrep.specs.Pages.{words_of, slots_in, AreSlots, ArePages}
 use Rattle.psos_dirrep.proofs.DecodeTests.{slots-drop}
@@ -275,14 +272,6 @@ past-slots page k h long past =
 pub record HasPut (k : ℕ) (names all : List Name) : Type 0 where
   pub few : k ≤ 16
   pub same : names ≡ all
-
--- ---- a name by its two numbers
-
-pub filled-of : (n : Name) → is_filled_name n ≡ true → name_of (name_text n) ≡ n
-filled-of n e =
-    let parts = and_parts (is_name (name_text n)) (bytes_eq n.bytes (padded 16 (name_text n))) e in
-    let same = (bytes_eq-Decides n.bytes (padded 16 (name_text n))).0 parts.1 in
-    ap (λ (b : List ℕ). (let x : Name = record { bytes = b } in x)) (sym same)
 
 -- names that were passed, and then none that are left
 pub all-passed : {X : Type 0} (names left all : List X) → names ++ left ≡ all → left ≡ [] → names ≡ all

@@ -8,8 +8,8 @@ ghost use Rattle.psos_calls.specs.Plan.Objects.{no_entry};
 ghost use Rattle.psos_plan_dir.specs.Collected.{collected, name_in, none_used, read_name, with_name, with_names, IsNamed};
 ghost use Rattle.psos_plan_dir.specs.Pages.{IsWhole, pages_in};
 
-use crate::names::name_of;
 use psos_calls::{LevelAnswer, Names, Step};
+use psos_dirrep::name_from;
 use psos_text::Name;
 use psos_words::{Page, Word};
 use std::alloc::{AllocError, Global};
@@ -126,7 +126,7 @@ fn read_name(high: Word, low: Word, last: Word) -> Option<Name>
         return None;
     };
     match last {
-        Word::Cap(_) => Some(name_of(h, l)),
+        Word::Cap(_) => Some(name_from(h, l)),
         Word::Data(_) => None,
     }
 }

@@ -8,7 +8,6 @@ mod close;
 mod collect;
 mod directories;
 mod listing;
-mod names;
 mod open;
 mod plan;
 mod read;

@@ -5,7 +5,7 @@ ghost use Rattle.psos_calls.specs.declared.step.Step.{Step as Made};
 ghost use Rattle.psos_text.specs.Name.{IsName};
 ghost use Rattle.psos_words.specs.Directory.{entries_in, find, slot_for};
 ghost use Rattle.psos_dirrep.specs.Entries.{as_found};
-ghost use Rattle.psos_dirrep.specs.Pages.{AreSlots, find_on, slot_on, entry_slot};
+ghost use Rattle.psos_dirrep.specs.Pages.{AreSlots, find_on, slot_on};
 ghost use Rattle.psos_calls.specs.Language.Names.{names_of};
 ghost use Rattle.psos_calls.specs.Plan.Objects.{is_empty};
 ghost use Rattle.psos_plan_dir.specs.Pages.{IsOpen, IsWhole, opened_by, pages_in};
@@ -13,7 +13,7 @@ ghost use Rattle.psos_plan_dir.specs.Room.{room_for};
 
 use crate::collect::{collected, listed, none_used};
 use psos_calls::{Level, LevelAnswer, LevelCall, Names, Next, Refusal, Step, Tab};
-use psos_dirrep::{Found, find_on, free_on};
+use psos_dirrep::{Found, entry_slot, find_on, free_on};
 use psos_text::Name;
 use psos_words::Word;
 use std::alloc::{AllocError, Global};
@@ -117,16 +117,6 @@ impl<'a> Open<'a> {
     }
 }
 
-// The last of 128 slots is never an entry's.
-fn entry_slot(place: Option<u8>) -> Option<u8>
-    ensures { result ≡ entry_slot place }
-{
-    match place {
-        Some(k) => { if k < 127 { Some(k) } else { None } }
-        None => None,
-    }
-}
-
 // The entry of a name on pages of which the first begins with this slot.
 fn find_from(calls: &[Step], base: u8, name: &Name) -> Option<Found>
     requires named { IsName name.now }
@@ -141,14 +131,10 @@ fn find_from(calls: &[Step], base: u8, name: &Name) -> Option<Found>
     let LevelAnswer::Whole(page) = &call.answer else {
         unreachable!();
     };
-    if let Some(found) = find_on(page, name) {
-        return Some(Found {
-            slot: base + found.slot,
-            cap: found.cap,
-            kept: found.kept,
-        });
+    match find_on(page, base, name) {
+        Some(found) => Some(found),
+        None => find_from(rest, base + 16, name),
     }
-    find_from(rest, base + 16, name)
 }
 
 // The least slot that is not used on pages of which the first begins with this slot.
@@ -164,8 +150,8 @@ fn free_from(calls: &[Step], base: u8) -> Option<u8>
     let LevelAnswer::Whole(page) = &call.answer else {
         unreachable!();
     };
-    if let Some(k) = free_on(page) {
-        return Some(base + k);
+    match free_on(page, base) {
+        Some(k) => Some(k),
+        None => free_from(rest, base + 16),
     }
-    free_from(rest, base + 16)
 }

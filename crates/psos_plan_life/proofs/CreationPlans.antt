@@ -23,7 +23,7 @@ use Rattle.psos_calls.specs.Language.Stores.{guard_of}
 use Rattle.psos_calls.specs.Plan.Trace.{followed, next_of, IsTraceOf}
 use Rattle.psos_plan_dir.specs.Reads.{IsRun}
 use Rattle.psos_plan_life.specs.Parts.{Gives, Stops, Leads, doing, segmented, represented, directed}
-use Rattle.psos_plan_life.specs.Places.{Placed, placed_in, making, IsMaking, IsPlaced}
+use Rattle.psos_plan_life.specs.Vacancies.{Vacancy, vacancy_in, making, IsMaking, IsVacancy}
 use Rattle.psos_plan_life.proofs.PlanSequence.{passed}
 
 -- the tests that a plan begins with, where they pass
@@ -41,17 +41,17 @@ same_uid u n e = ap uid e
 pub same_rights : (r : Rights) (bits : ℕ) → r.0 ≡ bits → r ≡ record { 0 = bits }
 same_rights r bits e = ap (λ (n : ℕ). (let x : Rights = record { 0 = n } in x)) e
 
--- ---- a plan that finds a place, makes something, and enrols it as of this kind
+-- ---- a plan that finds a vacancy, makes something, and enrols it as of this kind
 
--- what is behind the place, by the part that makes
-abbrev pub Behind : (Placed → (Unit {0} → Plan) → Plan) → Name → Kind → ℕ → Placed → Plan
+-- what is behind the vacancy, by the part that makes
+abbrev pub Behind : (Vacancy → (Unit {0} → Plan) → Plan) → Name → Kind → ℕ → Vacancy → Plan
 Behind part name kind rd p = part p (λ _. enrolled p.dir p.slot name kind p.new rd)
 
-pub record Makes (plan : Plan) (dir : Capability) (of : Option Capability) (name : Name) (kind : Kind) (rd : ℕ) (part : Placed → (Unit {0} → Plan) → Plan) : Type 0 where
+pub record Makes (plan : Plan) (dir : Capability) (of : Option Capability) (name : Name) (kind : Kind) (rd : ℕ) (part : Vacancy → (Unit {0} → Plan) → Plan) : Type 0 where
   pub is : plan ≡ making dir of name (Behind part name kind rd)
 
-module _ {plan : Plan} {dir : Capability} {of : Option Capability} {name : Name} {kind : Kind} {rd : ℕ} {part : Placed → (Unit {0} → Plan) → Plan} (m : Makes plan dir of name kind rd part) (trace : List Step) where
-  -- it is in the part that finds the place
+module _ {plan : Plan} {dir : Capability} {of : Option Capability} {name : Name} {kind : Kind} {rd : ℕ} {part : Vacancy → (Unit {0} → Plan) → Plan} (m : Makes plan dir of name kind rd part) (trace : List Step) where
+  -- it is in the part that finds the vacancy
   pub makes_front : IsRun plan trace → IsMaking dir of name trace
   makes_front run =
       let P : Plan → Type 0 = λ p. IsTraceOf p run.levels trace in
@@ -60,13 +60,13 @@ module _ {plan : Plan} {dir : Capability} {of : Option Capability} {name : Name}
   by_part : (next : Next) → next ≡ next_of (followed (making dir of name (Behind part name kind rd)) trace) → next ≡ next_of (followed plan trace)
   by_part next h = h ∙ ap (λ (p : Plan). next_of (followed p trace)) (sym m.is)
 
-  -- no place is found yet
+  -- no vacancy is found yet
   pub makes_stop : (next : Next) → Stops (making dir of name) trace next → next ≡ next_of (followed plan trace)
   makes_stop next h = by_part next (h.comes (Behind part name kind rd))
 
-  -- a place is found
-  pub makes_end : (next : Next) (d : Opened) (new : Capability) (rest : List Step) → IsPlaced (making dir of name) trace d new rest
-      → next ≡ next_of (followed (Behind part name kind rd (placed_in d new)) rest) → next ≡ next_of (followed plan trace)
+  -- a vacancy is found
+  pub makes_end : (next : Next) (d : Opened) (new : Capability) (rest : List Step) → IsVacancy (making dir of name) trace d new rest
+      → next ≡ next_of (followed (Behind part name kind rd (vacancy_in d new)) rest) → next ≡ next_of (followed plan trace)
   makes_end next d new rest p h = by_part next (passed p.gives (Behind part name kind rd) h)
 
 -- ---- the five requests
@@ -74,7 +74,7 @@ module _ {plan : Plan} {dir : Capability} {of : Option Capability} {name : Name}
 pub mkseg_makes : (r : List Word) (rd rs : ℕ) (name : Name) (len g : ℕ) (dir : Capability) → word_at r rs ≡ Cap dir → is_length len ≡ true
     → Makes (plan_mkseg r rd rs name len g) dir None name kinds.Segment rd (λ p. segmented p.new.uid len (guard_of g))
 mkseg_makes r rd rs name len g dir e long =
-    let part : Placed → (Unit {0} → Plan) → Plan = λ p. segmented p.new.uid len (guard_of g) in
+    let part : Vacancy → (Unit {0} → Plan) → Plan = λ p. segmented p.new.uid len (guard_of g) in
     record {
       is = cap_is (word_at r rs) dir (refuse NotCap) (λ d. if_holds (is_length len) (refuse Range) (making d None name (Behind part name kinds.Segment rd))) e
           ∙ holds_is (is_length len) (refuse Range) (making dir None name (Behind part name kinds.Segment rd)) long;
@@ -83,19 +83,19 @@ mkseg_makes r rd rs name len g dir e long =
 pub mkdir_makes : (r : List Word) (rd rs : ℕ) (name : Name) (g : ℕ) (dir : Capability) → word_at r rs ≡ Cap dir
     → Makes (plan_mkdir r rd rs name g) dir None name kinds.Directory rd (λ p. directed p.new.uid (guard_of g))
 mkdir_makes r rd rs name g dir e =
-    let part : Placed → (Unit {0} → Plan) → Plan = λ p. directed p.new.uid (guard_of g) in
+    let part : Vacancy → (Unit {0} → Plan) → Plan = λ p. directed p.new.uid (guard_of g) in
     record { is = cap_is (word_at r rs) dir (refuse NotCap) (λ d. making d None name (Behind part name kinds.Directory rd)) e }
 
 pub mktype_makes : (r : List Word) (rd rs : ℕ) (name : Name) (dir : Capability) → word_at r rs ≡ Cap dir
     → Makes (plan_mktype r rd rs name) dir None name kinds.Typ rd (λ p. doing (TypeMake (uid p.new.uid)))
 mktype_makes r rd rs name dir e =
-    let part : Placed → (Unit {0} → Plan) → Plan = λ p. doing (TypeMake (uid p.new.uid)) in
+    let part : Vacancy → (Unit {0} → Plan) → Plan = λ p. doing (TypeMake (uid p.new.uid)) in
     record { is = cap_is (word_at r rs) dir (refuse NotCap) (λ d. making d None name (Behind part name kinds.Typ rd)) e }
 
 pub mkobj_makes : (r : List Word) (rd rt rs : ℕ) (name : Name) (len : ℕ) (of dir : Capability) → word_at r rt ≡ Cap of → word_at r rs ≡ Cap dir → is_length len ≡ true
     → Makes (plan_mkobj r rd rt rs name len) dir (Some of) name kinds.Object rd (λ p. represented p.new.uid len (record { 0 = 1 }) (Some (uid of.uid)))
 mkobj_makes r rd rt rs name len of dir e1 e2 long =
-    let part : Capability → Placed → (Unit {0} → Plan) → Plan = λ t p. represented p.new.uid len (record { 0 = 1 }) (Some (uid t.uid)) in
+    let part : Capability → Vacancy → (Unit {0} → Plan) → Plan = λ t p. represented p.new.uid len (record { 0 = 1 }) (Some (uid t.uid)) in
     let whole : Capability → Capability → Plan = λ t d. making d (Some t) name (Behind (part t) name kinds.Object rd) in
     record {
       is = cap_is (word_at r rt) of (refuse NotCap) (λ t. if_cap (word_at r rs) (refuse NotCap) (λ d. if_holds (is_length len) (refuse Range) (whole t d))) e1

@@ -28,7 +28,7 @@ use Rattle.psos_calls.specs.Plan.Objects.{is_empty, plan_delete}
 use Rattle.psos_calls.specs.Plan.Trace.{followed, next_of, IsTraceOf}
 use Rattle.psos_plan_dir.specs.Reads.{IsRun, IsNoPage, IsNext, GoesOn, IsCapFront, open_with}
 use Rattle.psos_plan_life.specs.Parts.{Gives, Stops, Tells, Leads, doing, object_dropped}
-use Rattle.psos_plan_life.specs.Deletes.{held_dir, Picked, picking, kind_dropped, emptied, forgotten, deleting, IsHeldFront, IsDeleting, IsEmptying, IsPicked}
+use Rattle.psos_plan_life.specs.Deletion.{held_dir, Picked, picking, kind_dropped, emptied, forgotten, deleting, IsHeldFront, IsDeleting, IsEmptying, IsPicked}
 use Rattle.psos_plan_life.proofs.PlanSequence.{passed}
 use Rattle.psos_plan_life.proofs.CreationPlans.{cap_is}
 

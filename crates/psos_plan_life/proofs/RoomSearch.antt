@@ -23,7 +23,7 @@ use Rattle.psos_calls.specs.Plan.Parts.{Opened, with_fresh}
 use Rattle.psos_calls.specs.Plan.Trace.{followed, next_of, IsTraceOf}
 use Rattle.psos_plan_dir.specs.Room.{room_for}
 use Rattle.psos_plan_life.specs.Parts.{Gives, Stops}
-use Rattle.psos_plan_life.specs.Places.{Placed, free_place, placing, IsPlacing, IsPlaced}
+use Rattle.psos_plan_life.specs.Vacancies.{Vacancy, free_slot, finding, IsFinding, IsVacancy}
 use Rattle.psos_plan_dir.specs.Reads.{IsNoPage}
 
 -- the directory has no entry of the name, and a slot that is not used
@@ -36,11 +36,11 @@ abbrev Tried : Option Found → Option ℕ → (ℕ → Plan) → Plan
 Tried found slot go = if_none found (λ _. refuse NameTaken) (if_there slot (refuse (Exhausted Entries)) go)
 
 -- what the part goes on with
-abbrev Taking : Opened → (Placed → Plan) → ℕ → Plan
+abbrev Taking : Opened → (Vacancy → Plan) → ℕ → Plan
 Taking d go k = with_fresh (λ new. go (record { dir = d; slot = k; new = new }))
 
--- where there is room, an identifier is taken for the free place
-pub room_goes_on : (d : Opened) (name : Name) → HasRoom d name → (go : Placed → Plan) → placing d name go ≡ Taking d go (free_place d)
+-- where there is room, an identifier is taken for the free slot
+pub room_goes_on : (d : Opened) (name : Name) → HasRoom d name → (go : Vacancy → Plan) → finding d name go ≡ Taking d go (free_slot d)
 room_goes_on d name room go = ap (λ f. Tried f (slot_for d.slots) (Taking d go)) room.new ∙ by (slot_for d.slots) room.room
   where
     by : (slot : Option ℕ) → IsSome slot → Tried None slot (Taking d go) ≡ Taking d go (unwrap_or slot 0)
@@ -48,7 +48,7 @@ room_goes_on d name room go = ap (λ f. Tried f (slot_for d.slots) (Taking d go)
     by (Some k) some = refl
 
 -- and where a call was made, there was room
-pub room_was : (d : Opened) (name : Name) (s : Step) (rest : List Step) → IsPlacing d name (s ∷ rest) → HasRoom d name
+pub room_was : (d : Opened) (name : Name) (s : Step) (rest : List Step) → IsFinding d name (s ∷ rest) → HasRoom d name
 room_was d name s rest front = by (find d.slots name) (slot_for d.slots) refl refl front.front
   where
     by : (found : Option Found) (slot : Option ℕ) → find d.slots name ≡ found → slot_for d.slots ≡ slot → IsTraceOf (Tried found slot (Taking d front.go)) front.levels (s ∷ rest) → HasRoom d name
@@ -57,8 +57,8 @@ room_was d name s rest front = by (find d.slots name) (slot_for d.slots) refl re
     by None (Some k) is at h = record { new = is; room = subst IsSome (sym at) refl }
 
 -- it is no call for a page
-pub placing_apart : (d : Opened) (name : Name) (go : Placed → Plan) → IsNoPage (placing d name go)
-placing_apart d name go = by (find d.slots name) (slot_for d.slots)
+pub finding_apart : (d : Opened) (name : Name) (go : Vacancy → Plan) → IsNoPage (finding d name go)
+finding_apart d name go = by (find d.slots name) (slot_for d.slots)
   where
     by : (found : Option Found) (slot : Option ℕ) → IsNoPage (Tried found slot (Taking d go))
     by (Some f) slot = tt
@@ -82,23 +82,23 @@ no_calls : (trace : List Step) → (length trace == 0) ≡ true → trace ≡ []
 no_calls [] e = refl
 no_calls (s ∷ rest) e = absurd (false≢true (sym (eqb-suc-zero (length rest)) ∙ e))
 
-pub stops_at_room : (d : Opened) (name : Name) (trace : List Step) (k : ℕ) → (length trace == 0) ≡ true → room_for d name ≡ Ok k → Stops (placing d name) trace (Call L0 Fresh)
-stops_at_room d name trace k none room = record { comes = λ go. sym (ap next_of (ap (followed (placing d name go)) (no_calls trace none) ∙ ap (λ p. followed p []) (by_room (find d.slots name) (slot_for d.slots) (Taking d go) k room))) }
+pub stops_at_room : (d : Opened) (name : Name) (trace : List Step) (k : ℕ) → (length trace == 0) ≡ true → room_for d name ≡ Ok k → Stops (finding d name) trace (Call L0 Fresh)
+stops_at_room d name trace k none room = record { comes = λ go. sym (ap next_of (ap (followed (finding d name go)) (no_calls trace none) ∙ ap (λ p. followed p []) (by_room (find d.slots name) (slot_for d.slots) (Taking d go) k room))) }
 
-pub stops_full : (d : Opened) (name : Name) (trace : List Step) (why : Refusal) → (length trace == 0) ≡ true → room_for d name ≡ Err why → Stops (placing d name) trace (Close (replies.No why) Nothing)
-stops_full d name trace why none full = record { comes = λ go. sym (ap next_of (ap (followed (placing d name go)) (no_calls trace none) ∙ ap (λ p. followed p []) (by_refusal (find d.slots name) (slot_for d.slots) (Taking d go) why full))) }
+pub stops_full : (d : Opened) (name : Name) (trace : List Step) (why : Refusal) → (length trace == 0) ≡ true → room_for d name ≡ Err why → Stops (finding d name) trace (Close (replies.No why) Nothing)
+stops_full d name trace why none full = record { comes = λ go. sym (ap next_of (ap (followed (finding d name go)) (no_calls trace none) ∙ ap (λ p. followed p []) (by_refusal (find d.slots name) (slot_for d.slots) (Taking d go) why full))) }
 
 -- ---- calls were made
 
-pub placed : (d : Opened) (name : Name) (trace : List Step) → HasRoom d name → (r : Result (Capability × Bor (List Step)) Next)
+pub vacancy_found : (d : Opened) (name : Name) (trace : List Step) → HasRoom d name → (r : Result (Capability × Bor (List Step)) Next)
     → MatchResult r (λ p. Gives with_fresh trace p.0 p.1.now) (λ n. Stops with_fresh trace n)
-    → MatchResult r (λ p. IsPlaced (placing d name) trace d p.0 p.1.now) (λ n. Stops (placing d name) trace n)
-placed d name trace room (Ok p) h = record {
+    → MatchResult r (λ p. IsVacancy (finding d name) trace d p.0 p.1.now) (λ n. Stops (finding d name) trace n)
+vacancy_found d name trace room (Ok p) h = record {
   room = room.room;
-  gives = record { goes_on = λ go. ap (λ p. followed p trace) (room_goes_on d name room go) ∙ h.goes_on (λ new. go (record { dir = d; slot = free_place d; new = new })) };
+  gives = record { goes_on = λ go. ap (λ p. followed p trace) (room_goes_on d name room go) ∙ h.goes_on (λ new. go (record { dir = d; slot = free_slot d; new = new })) };
 }
-placed d name trace room (Err n) h = record { comes = λ go. h.comes (λ new. go (record { dir = d; slot = free_place d; new = new })) ∙ ap (λ p. next_of (followed p trace)) (sym (room_goes_on d name room go)) }
+vacancy_found d name trace room (Err n) h = record { comes = λ go. h.comes (λ new. go (record { dir = d; slot = free_slot d; new = new })) ∙ ap (λ p. next_of (followed p trace)) (sym (room_goes_on d name room go)) }
 
-pub room_found : (d : Opened) (name : Name) (trace : List Step) → false ≡ (length trace == 0) → IsPlacing d name trace → HasRoom d name
+pub room_found : (d : Opened) (name : Name) (trace : List Step) → false ≡ (length trace == 0) → IsFinding d name trace → HasRoom d name
 room_found d name [] some front = cc
 room_found d name (s ∷ rest) some front = room_was d name s rest front

@@ -1,4 +1,4 @@
 pub mod Kinds
 pub mod Parts
-pub mod Places
-pub mod Deletes
+pub mod Vacancies
+pub mod Deletion

@@ -27,6 +27,10 @@ abbrev pub Tells : ((Unit {0} → Plan) → Plan) → List Step → Result (Bor 
 Tells part trace (Ok rest) = Gives part trace tt rest.now
 Tells part trace (Err next) = Stops part trace next
 
+-- a part was tried, with this result: whatever part it was, this comes next where such a plan is behind it
+pub record ComesAfter (tried : Result (Bor (List Step)) Next) (after : Plan) (next : Next) : Type 0 where
+  pub comes : (part : (Unit {0} → Plan) → Plan) (trace : List Step) → Tells part trace tried → next ≡ next_of (followed (part (λ _. after)) trace)
+
 -- a call that only has to be made
 abbrev pub doing : LevelCall → (Unit {0} → Plan) → Plan
 doing call go = Ask call (λ a. if_done a (go tt))

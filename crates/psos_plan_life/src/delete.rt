@@ -8,10 +8,10 @@ ghost use Rattle.psos_calls.specs.Plan.Objects.{plan_delete};
 ghost use Rattle.psos_calls.specs.Plan.Trace.{followed, next_of};
 ghost use Rattle.psos_plan_dir.specs.Reads.{IsRun, Reads};
 ghost use Rattle.psos_plan_life.specs.Parts.{Stops};
-ghost use Rattle.psos_plan_life.specs.Deletes.{held_dir, picking, forgotten, deleting, IsHeldFront, IsDeleting, IsEntryOf, IsPicked};
+ghost use Rattle.psos_plan_life.specs.Deletion.{held_dir, picking, forgotten, deleting, IsHeldFront, IsDeleting, IsEntryOf, IsPicked};
 
-use crate::gone::kind_gone;
 use crate::parts::done;
+use crate::removal::kind_gone;
 use psos_calls::close::{fine, refuse};
 use psos_calls::{Kind, Level, LevelAnswer, LevelCall, Next, Private, Refusal, Right, Step};
 use psos_caps::{Cap, Uid};

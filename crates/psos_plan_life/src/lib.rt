@@ -6,13 +6,13 @@
 
 mod delete;
 mod enrol;
-mod gone;
 mod impls;
 mod makes;
+mod operands;
 mod parts;
-mod place;
 mod plan;
-mod shape;
-mod store;
+mod removal;
+mod segments;
+mod vacancy;
 
 pub use plan::next;

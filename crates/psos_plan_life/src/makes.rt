@@ -1,4 +1,4 @@
-// Plans that make a user object: what a request asks is looked at, then a place is found, the thing is made, and it is
+// Plans that make a user object: what a request asks is looked at, then a vacancy is found, the thing is made, and it is
 // enrolled.
 ghost use Rattle.std.specs.Prelude.{◌≡◌, ◌<◌};
 ghost use Rattle.psos_text.specs.Name.{IsName};
@@ -8,10 +8,10 @@ ghost use Rattle.psos_calls.specs.Plan.Objects.{plan_mkseg, plan_mkdir, plan_mkt
 ghost use Rattle.psos_plan_dir.specs.Reads.{IsRun};
 
 use crate::enrol::enrol;
+use crate::operands::{guard_of, segment_len};
 use crate::parts::done;
-use crate::place::make_in;
-use crate::shape::{guard_of, segment_len};
-use crate::store::{directory, representation, segment};
+use crate::segments::{directory, representation, segment};
+use crate::vacancy::make_in;
 use psos_calls::close::refuse;
 use psos_calls::{Kind, Level, LevelCall, Next, Private, Refusal, Step};
 use psos_caps::Rights;
@@ -38,12 +38,12 @@ pub(crate) fn next_mkseg(
     let Some(len) = segment_len(len) else {
         return refuse(Refusal::Range);
     };
-    let (place, trace) = match make_in(dir, None, name, trace) {
+    let (vacancy, trace) = match make_in(dir, None, name, trace) {
         Ok(found) => found,
         Err(next) => return next,
     };
-    let made = segment(place.new.uid(), len, guard_of(guard), trace);
-    enrol(&place, name, Kind::Segment, rd, made)
+    let made = segment(vacancy.new.uid(), len, guard_of(guard), trace);
+    enrol(&vacancy, name, Kind::Segment, rd, made)
 }
 
 pub(crate) fn next_mkdir(
@@ -62,12 +62,12 @@ pub(crate) fn next_mkdir(
     let Word::Cap(dir) = me.here(rs) else {
         return refuse(Refusal::NotCap);
     };
-    let (place, trace) = match make_in(dir, None, name, trace) {
+    let (vacancy, trace) = match make_in(dir, None, name, trace) {
         Ok(found) => found,
         Err(next) => return next,
     };
-    let made = directory(place.new.uid(), guard_of(guard), trace);
-    enrol(&place, name, Kind::Directory, rd, made)
+    let made = directory(vacancy.new.uid(), guard_of(guard), trace);
+    enrol(&vacancy, name, Kind::Directory, rd, made)
 }
 
 pub(crate) fn next_mktype(me: &Private, rd: u8, rs: u8, name: &Name, trace: &[Step]) -> Next
@@ -79,13 +79,13 @@ pub(crate) fn next_mktype(me: &Private, rd: u8, rs: u8, name: &Name, trace: &[St
     let Word::Cap(dir) = me.here(rs) else {
         return refuse(Refusal::NotCap);
     };
-    let (place, trace) = match make_in(dir, None, name, trace) {
+    let (vacancy, trace) = match make_in(dir, None, name, trace) {
         Ok(found) => found,
         Err(next) => return next,
     };
-    let uid = place.new.uid();
+    let uid = vacancy.new.uid();
     let made = done(Level::L9, LevelCall::TypeMake { uid }, trace);
-    enrol(&place, name, Kind::Typ, rd, made)
+    enrol(&vacancy, name, Kind::Typ, rd, made)
 }
 
 pub(crate) fn next_mkobj(
@@ -112,12 +112,12 @@ pub(crate) fn next_mkobj(
     let Some(len) = segment_len(len) else {
         return refuse(Refusal::Range);
     };
-    let (place, trace) = match make_in(dir, Some(of), name, trace) {
+    let (vacancy, trace) = match make_in(dir, Some(of), name, trace) {
         Ok(found) => found,
         Err(next) => return next,
     };
-    let made = representation(place.new.uid(), len, Rights::of(1), Some(of.uid()), trace);
-    enrol(&place, name, Kind::Object, rd, made)
+    let made = representation(vacancy.new.uid(), len, Rights::of(1), Some(of.uid()), trace);
+    enrol(&vacancy, name, Kind::Object, rd, made)
 }
 
 pub(crate) fn next_mkcode(
@@ -143,11 +143,11 @@ pub(crate) fn next_mkcode(
         Ok(trace) => trace,
         Err(next) => return next,
     };
-    let (place, trace) = match make_in(dir, None, name, trace) {
+    let (vacancy, trace) = match make_in(dir, None, name, trace) {
         Ok(found) => found,
         Err(next) => return next,
     };
-    let uid = place.new.uid();
+    let uid = vacancy.new.uid();
     let made = done(Level::L13, LevelCall::CodeMake { uid, label, link }, trace);
-    enrol(&place, name, Kind::Code, rd, made)
+    enrol(&vacancy, name, Kind::Code, rd, made)
 }

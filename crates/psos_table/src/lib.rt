@@ -4,8 +4,6 @@
 mod change;
 mod table;
 mod test;
-#[cfg(test)]
-mod tests;
 
 pub use change::Change;
 pub use table::Table;

@@ -7,8 +7,6 @@ mod hex;
 mod laws;
 mod name;
 mod number;
-#[cfg(test)]
-mod tests;
 mod tokens;
 
 pub use fault::TextFault;

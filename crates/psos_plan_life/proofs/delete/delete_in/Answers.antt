@@ -1,6 +1,6 @@
 use Rattle.std.proofs.Common.{ℕ, sym, subst}
 use Rattle.psos_calls.specs.Plan.Trace.{IsTraceOf}
-use Rattle.psos_plan_life.specs.Deletes.{kind_dropped, forgotten}
+use Rattle.psos_plan_life.specs.Deletion.{kind_dropped, forgotten}
 use Rattle.psos_plan_life.proofs.PlanSequence.{passed}
 use Rattle.psos_plan_life.proofs.DeletePlan.{After}
 use Rattle.psos_plan_life.proofs.delete.delete_in.Goals as goal

@@ -2,7 +2,7 @@ use Rattle.std.proofs.Common.{sym, ap, ◌∙◌}
 use Rattle.psos_calls.specs.Language.User.{here}
 use Rattle.psos_calls.specs.Plan.{Plan}
 use Rattle.psos_calls.specs.Plan.Trace.{followed, next_of}
-use Rattle.psos_plan_life.specs.Deletes.{deleting}
+use Rattle.psos_plan_life.specs.Deletion.{deleting}
 use Rattle.psos_plan_life.proofs.DeletePlan.{delete_is, delete_front}
 use Rattle.psos_plan_life.proofs.delete.next_delete.Goals as goal
 

@@ -25,4 +25,4 @@ returns c =
     let given = rw (← c.here-link.ensures.at) at c.in-Ok.ensures.past in
     trial_passed (here c.args.me.now) c.args.rd c.args.rs c.args.name.now c.args.label c.args.rl c.in-Cap.dir c.in-Cap.ensures.at c.args.trace.now c.enrol.result c.in-Ok.trace.now given
     (makes_end (mkcode_makes (here c.args.me.now) c.args.rd c.args.name.now c.args.label c.args.rl c.in-Cap.dir) c.in-Ok.trace.now c.enrol.result found.0.dir found.0.new found.1.now c.in-Ok-make_in.ensures
-    (c.enrol.ensures _ found.1.now (rw (same_uid _ _ c.uid-uid.ensures, ← c.here-link.ensures.at) at c.done-made.ensures.past)))
+    (c.enrol.ensures.comes _ found.1.now (rw (same_uid _ _ c.uid-uid.ensures, ← c.here-link.ensures.at) at c.done-made.ensures.past)))

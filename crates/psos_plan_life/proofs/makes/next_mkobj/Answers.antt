@@ -12,4 +12,4 @@ pub returns : goal.returns
 returns c =
     let found = c.in-Ok.found in
     makes_end (mkobj_makes (here c.args.me.now) c.args.rd c.args.rt c.args.rs c.args.name.now c.args.len c.in-Cap.of c.in-Cap-here.dir c.in-Cap.ensures.at c.in-Cap-here.ensures.at c.in-Some.ensures.1) c.args.trace.now c.enrol.result found.0.dir found.0.new found.1.now c.in-Ok.ensures
-    (c.enrol.ensures _ found.1.now (rw (c.uid.ensures, c.in-Some.ensures.0, same_rights _ _ c.of.ensures, same_uid _ _ c.uid-2.ensures) at c.representation-made.ensures))
+    (c.enrol.ensures.comes _ found.1.now (rw (c.uid.ensures, c.in-Some.ensures.0, same_rights _ _ c.of.ensures, same_uid _ _ c.uid-2.ensures) at c.representation-made.ensures))

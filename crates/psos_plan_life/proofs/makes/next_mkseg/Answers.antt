@@ -12,4 +12,4 @@ pub returns : goal.returns
 returns c =
     let found = c.in-Ok.found in
     makes_end (mkseg_makes (here c.args.me.now) c.args.rd c.args.rs c.args.name.now c.args.len c.args.guard c.in-Cap.dir c.in-Cap.ensures.at c.in-Some.ensures.1) c.args.trace.now c.enrol.result found.0.dir found.0.new found.1.now c.in-Ok.ensures
-    (c.enrol.ensures _ found.1.now (rw (c.uid.ensures, c.in-Some.ensures.0, c.guard_of.ensures) at c.segment-made.ensures))
+    (c.enrol.ensures.comes _ found.1.now (rw (c.uid.ensures, c.in-Some.ensures.0, c.guard_of.ensures) at c.segment-made.ensures))

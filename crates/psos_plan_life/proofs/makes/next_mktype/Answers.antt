@@ -12,4 +12,4 @@ pub returns : goal.returns
 returns c =
     let found = c.in-Ok.found in
     makes_end (mktype_makes (here c.args.me.now) c.args.rd c.args.rs c.args.name.now c.in-Cap.dir c.in-Cap.ensures.at) c.args.trace.now c.enrol.result found.0.dir found.0.new found.1.now c.in-Ok.ensures
-    (c.enrol.ensures _ found.1.now (rw (same_uid _ _ c.uid-uid.ensures) at c.done-made.ensures.past))
+    (c.enrol.ensures.comes _ found.1.now (rw (same_uid _ _ c.uid-uid.ensures) at c.done-made.ensures.past))

@@ -1,9 +1,0 @@
-use Rattle.std.proofs.Common.{rules}
-use Rattle.psos_text.proofs.FirstPlaces.{first_is, none_is, is_byte}
-use Rattle.psos_plan_dir.proofs.names.first_zero.Goals as goal
-
-pub returns-then-b-eq0-clause-at : goal.returns-then-b-eq0-clause-at
-returns-then-b-eq0-clause-at c = first_is (is_byte 0) c.args.bytes.now c.bytes.i c.bytes-test.true (search rules) c.bytes.invariant
-
-pub returns-clause-at : goal.returns-clause-at
-returns-clause-at c = none_is (is_byte 0) c.args.bytes.now c.bytes.i c.bytes-test.false c.bytes.invariant

@@ -1,7 +1,0 @@
-use Rattle.psos_plan_life.proofs.RoomSearch.{placed, room_found}
-use Rattle.psos_plan_life.proofs.place.find_place.Goals as goal
-
-pub returns : goal.returns
-returns c =
-    let room = room_found c.args.dir.now c.args.name.now c.args.trace.now c.if-is_empty.ensures c.requires.front in
-    placed c.args.dir.now c.args.name.now c.args.trace.now room c.fresh.result c.fresh.ensures

@@ -1,0 +1,13 @@
+use Rattle.std.proofs.lemmas.Result.{err_from_is_err_and}
+use Rattle.psos_calls.specs.declared.level_call.LevelCall.TheVariants.{PageDrop}
+use Rattle.psos_plan_life.specs.Parts.{doing}
+use Rattle.psos_plan_life.proofs.PlanSequence.{first_stops, last_part}
+use Rattle.psos_plan_life.proofs.segments.segment_gone.Goals as goal
+
+pub returns-in_err-slot : goal.returns-in_err-slot
+returns-in_err-slot c =
+    let p = err_from_is_err_and c.from_residual.result c.from_residual.ensures.1 in
+    rw (p.1, p.2) (first_stops (λ slot. doing (PageDrop slot)) c.in_err-slot.ensures)
+
+pub returns : goal.returns
+returns c = last_part (λ slot. doing (PageDrop slot)) c.done.result c.in_ok-slot.ensures c.done.ensures.past
