@@ -3,6 +3,7 @@ use Rattle.std.proofs.Common.{◌≡◌, ℕ, zero, suc, ◌+◌, ◌-◌, ◌*�
 use Rattle.std.specs.Prelude.{slice_index_or, replicate}
 use Rattle.std.proofs.lemmas.Option.{none-some}
 use Rattle.std.proofs.lemmas.List.{length-replicate}
+use Rattle.psos_limits.specs.declared.TheConstants.{SLOTS, MOST_WORDS}
 use Rattle.psos_words.specs.declared.word.Word.{Word}
 use Rattle.psos_words.specs.Words.{zeros}
 use Rattle.psos_calls.specs.Levels.Level7.{Pages}
@@ -22,11 +23,11 @@ home_there k (user ∷ users) rest (suc i) h =
     let same : k + 1 + i ≡ k + suc i = omega arith in
     subst P at_next (home_there (k + 1) users rest i (omega (arith, h))) ∙ ap (λ n. Some (home_words n)) same
 
-scratch_there : (k : ℕ) (users : List UserScript) (rest : Pages) (i : ℕ) → i < length users → slice_index_or (user_slots k users ++ rest) (suc (2 * i)) None ≡ Some (zeros 512)
+scratch_there : (k : ℕ) (users : List UserScript) (rest : Pages) (i : ℕ) → i < length users → slice_index_or (user_slots k users ++ rest) (suc (2 * i)) None ≡ Some (zeros MOST_WORDS)
 scratch_there k [] rest i h = absurd (omega (arith, h))
 scratch_there k (user ∷ users) rest zero h = refl
 scratch_there k (user ∷ users) rest (suc i) h =
-    let P : ℕ → Type 0 = λ n. slice_index_or (user_slots k (user ∷ users) ++ rest) n None ≡ Some (zeros 512) in
+    let P : ℕ → Type 0 = λ n. slice_index_or (user_slots k (user ∷ users) ++ rest) n None ≡ Some (zeros MOST_WORDS) in
     let at_next : suc (suc (suc (2 * i))) ≡ suc (2 * suc i) = omega arith in
     subst P at_next (scratch_there (k + 1) users rest i (omega (arith, h)))
 
@@ -62,10 +63,10 @@ home_taken s i h =
     let P : ℕ → Type 0 = λ n. slice_index_or (boot_pages s) n None ≡ Some (home_words i) in
     subst P after_root (home_there 0 s.users (free_slots (520 - 2 * length s.users)) i h ∙ ap (λ n. Some (home_words n)) same)
 
-pub scratch_taken : (s : Script) (i : ℕ) → i < length s.users → slice_index_or (boot_pages s) (scratch_slot i) None ≡ Some (zeros 512)
+pub scratch_taken : (s : Script) (i : ℕ) → i < length s.users → slice_index_or (boot_pages s) (scratch_slot i) None ≡ Some (zeros MOST_WORDS)
 scratch_taken s i h =
     let after_root : suc (suc (2 * i)) ≡ scratch_slot i = omega arith in
-    let P : ℕ → Type 0 = λ n. slice_index_or (boot_pages s) n None ≡ Some (zeros 512) in
+    let P : ℕ → Type 0 = λ n. slice_index_or (boot_pages s) n None ≡ Some (zeros MOST_WORDS) in
     subst P after_root (scratch_there 0 s.users (free_slots (520 - 2 * length s.users)) i h)
 
 pub slot_owner : (s : Script) (slot : ℕ) (words : List Word) → slice_index_or (boot_pages s) (suc slot) None ≡ Some words → IsUsers (length s.users) slot
@@ -75,7 +76,7 @@ users_length : (k : ℕ) (users : List UserScript) → length (user_slots k user
 users_length k [] = refl
 users_length k (user ∷ users) = let rest = users_length (k + 1) users in omega (arith, rest)
 
-pub all_slots : (s : Script) → length s.users ≤ 8 → length (boot_pages s) ≡ 521
+pub all_slots : (s : Script) → length s.users ≤ 8 → length (boot_pages s) ≡ SLOTS
 all_slots s few =
     let all = length-append (user_slots 0 s.users) (free_slots (520 - 2 * length s.users)) in
     let taken = users_length 0 s.users in

@@ -3,6 +3,7 @@ use Rattle.std.proofs.Common.{◌≡◌, ℕ, zero, suc, ◌+◌, ◌*◌, ◌<�
 use Rattle.std.specs.Prelude.{slice_index_or}
 use Rattle.std.specs.Option.{option_map}
 use Rattle.std.specs.FinMap.{empty}
+use Rattle.psos_limits.specs.declared.TheConstants.{MOST_WORDS}
 use Rattle.psos_table.specs.Table.{Table, at, put}
 use Rattle.psos_table.proofs.Tables.{at-empty, at-put_here, row_put, row_empty}
 use Rattle.psos_words.specs.declared.word.Word.{Word}
@@ -75,14 +76,14 @@ module _ (s : Script) where
   stored_in u r ws live there =
       ap (λ (o : Option SegRow). slot_words (boot_pages s) (if_there o 0 (λ r. r.slot))) live ∙ ap words_in there
 
-  root_words_are : words_at 2 ≡ zeros 512
-  root_words_are = stored_in 2 (rep_row 0) (zeros 512) root_lives refl
+  root_words_are : words_at 2 ≡ zeros MOST_WORDS
+  root_words_are = stored_in 2 (rep_row 0) (zeros MOST_WORDS) root_lives refl
 
   home_words_are : (i : ℕ) → i < n → words_at (home_rep_of i) ≡ home_words i
   home_words_are i h = stored_in (home_rep_of i) (rep_row (home_slot i)) (home_words i) (home_lives i h) (home_taken s i h)
 
-  scratch_words_are : (i : ℕ) → i < n → words_at (scratch_of i) ≡ zeros 512
-  scratch_words_are i h = stored_in (scratch_of i) (scratch_row i) (zeros 512) (scratch_lives i h) (scratch_taken s i h)
+  scratch_words_are : (i : ℕ) → i < n → words_at (scratch_of i) ≡ zeros MOST_WORDS
+  scratch_words_are i h = stored_in (scratch_of i) (scratch_row i) (zeros MOST_WORDS) (scratch_lives i h) (scratch_taken s i h)
 
   -- ---- the clauses
 
@@ -145,15 +146,15 @@ module _ (s : Script) where
   seg_apart u v r t (Scratch i h a x) (Scratch j k b z) e = omega (arith, a, b, slot_is r _ x, slot_is t _ z, e)
 
   abbrev IsFull : ℕ → Type 0
-  IsFull slot = IsTaken (boot_pages s) slot × (length (slot_words (boot_pages s) slot) ≡ 512)
+  IsFull slot = IsTaken (boot_pages s) slot × (length (slot_words (boot_pages s) slot) ≡ MOST_WORDS)
 
-  full_slot : (slot : ℕ) (ws : List Word) → slice_index_or (boot_pages s) slot None ≡ Some ws → length ws ≡ 512 → IsFull slot
+  full_slot : (slot : ℕ) (ws : List Word) → slice_index_or (boot_pages s) slot None ≡ Some ws → length ws ≡ MOST_WORDS → IsFull slot
   full_slot slot ws there long = ((ws, there), ap (λ o. length (words_in o)) there ∙ long)
 
   seg_taken : (u : ℕ) (r : SegRow) → IsBootSeg n u r → IsFull r.slot
-  seg_taken u r (RootRep a x) = subst IsFull (slot_is r _ x) (full_slot 0 (zeros 512) refl refl)
+  seg_taken u r (RootRep a x) = subst IsFull (slot_is r _ x) (full_slot 0 (zeros MOST_WORDS) refl refl)
   seg_taken u r (HomeRep i h a x) = subst IsFull (slot_is r _ x) (full_slot (home_slot i) (home_words i) (home_taken s i h) (home_length i))
-  seg_taken u r (Scratch i h a x) = subst IsFull (slot_is r _ x) (full_slot (scratch_slot i) (zeros 512) (scratch_taken s i h) refl)
+  seg_taken u r (Scratch i h a x) = subst IsFull (slot_is r _ x) (full_slot (scratch_slot i) (zeros MOST_WORDS) (scratch_taken s i h) refl)
 
   abbrev IsUsed : ℕ → Type 0
   IsUsed slot = (u : ℕ) × ((r : SegRow) × (at (boot_rows s.users) u ≡ Some r) × (r.slot ≡ slot))
@@ -180,7 +181,7 @@ boot_stands s w = record {
   dirs = guards_alike s;
   objects = objects_alike s;
   segments = each_segment s (λ u x. IsLive (boot_system s) u (length x.words) x.guard.0) (λ j h. (scratch_row j, scratch_lives s j h, refl, refl));
-  reps = each_directory s (λ u d. IsLive (boot_system s) d.rep 512 d.guard.0) (rep_row 0, root_lives s, refl, refl) (λ j h. (rep_row (home_slot j), home_lives s j h, refl, refl));
+  reps = each_directory s (λ u d. IsLive (boot_system s) d.rep MOST_WORDS d.guard.0) (rep_row 0, root_lives s, refl, refl) (λ j h. (rep_row (home_slot j), home_lives s j h, refl, refl));
   no_other = λ u r live. flat_of s u r (seg_is s u r live);
   apart = λ u v r t a b. seg_apart s u v r t (seg_is s u r a) (seg_is s v t b);
   taken = λ u r live. seg_taken s u r (seg_is s u r live);

@@ -7,6 +7,7 @@ use Rattle.std.specs.Cmp.{eq_by_cmp_equiv}
 use Rattle.std.specs.FinMap.{empty, get, get-empty, get-insert}
 use Rattle.std.proofs.lemmas.List.{get_or-replicate}
 use Rattle.std.proofs.lemmas.Map.Text.{is_eq-slice_cmp}
+use Rattle.psos_limits.specs.declared.TheConstants.{MOST_WORDS, MOST_ENTRIES}
 use Rattle.psos_caps.specs.Capability.{full}
 use Rattle.psos_text.specs.declared.name.Name.{Name}
 use Rattle.psos_words.specs.declared.word.Word.{Word}
@@ -23,12 +24,12 @@ use Rattle.psos_model.proofs.NameOrder.{name_cmp_total}
 use Rattle.psos_model.proofs.BootRows.{root_row, home_row}
 
 -- the first words of a scratch segment
-pub zeros_alike : (i : ℕ) → i < 64 → word_at (zeros 512) i ≡ word_at (zeros 64) i
+pub zeros_alike : (i : ℕ) → i < 64 → word_at (zeros MOST_WORDS) i ≡ word_at (zeros 64) i
 zeros_alike i h =
     let none : Word = Data 0 in
-    get_or-replicate 512 i none none (omega (arith, h)) ∙ sym (get_or-replicate 64 i none none h)
+    get_or-replicate MOST_WORDS i none none (omega (arith, h)) ∙ sym (get_or-replicate 64 i none none h)
 
-pub home_length : (i : ℕ) → length (home_words i) ≡ 512
+pub home_length : (i : ℕ) → length (home_words i) ≡ MOST_WORDS
 home_length i = refl
 
 abbrev unused : ℕ → List Slot
@@ -40,15 +41,15 @@ unused_find (suc n) k name = unused_find n (k + 1) name
 
 -- ---- the root
 
-root_decodes : decode (zeros 512) ≡ Some (unused 127)
+root_decodes : decode (zeros MOST_WORDS) ≡ Some (unused MOST_ENTRIES)
 unfolding decode slots_of
 root_decodes = refl
 
-pub root_entries : HoldsEntries (zeros 512) root_row
+pub root_entries : HoldsEntries (zeros MOST_WORDS) root_row
 root_entries = record {
-  slots = unused 127;
+  slots = unused MOST_ENTRIES;
   decodes = root_decodes;
-  entries = λ name. ap (option_map named_of) (unused_find 127 0 name) ∙ sym (get-empty name_cmp name);
+  entries = λ name. ap (option_map named_of) (unused_find MOST_ENTRIES 0 name) ∙ sym (get-empty name_cmp name);
 }
 
 -- ---- a home

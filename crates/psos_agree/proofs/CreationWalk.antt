@@ -2,6 +2,7 @@
 use Rattle.std.proofs.Common.{◌≡◌, ℕ, ◌<◌, ◌≤◌, Bool, Option, Some, None, ap, ◌∙◌, arith, length}
 use Rattle.std.specs.Prelude.{IsSome, is_some}
 use Rattle.std.specs.Option.{option_map}
+use Rattle.psos_limits.specs.declared.TheConstants.{MOST_WORDS}
 use Rattle.psos_caps.specs.Capability.{full}
 use Rattle.psos_caps.specs.declared.rights.Rights.{Rights}
 use Rattle.psos_table.specs.Table.{Table, at}
@@ -26,7 +27,7 @@ use Rattle.psos_agree.proofs.ObjectsStand.{rep_of_object, rep_of_directory}
 
 module _ {y : System} {f : Flat} (h : StandsFor y f) (go : Plan) (P : Levels → Reply → Effect → Type 0) where
   -- a segment is made: its identifier is new at level 8, a slot is free, and its length is one of a segment
-  pub runs_with_segment : (u len : ℕ) (guard : Rights) → IsNew y.levels.segs u → first_free y.levels.pages < length y.levels.pages → 1 ≤ len → len ≤ 512
+  pub runs_with_segment : (u len : ℕ) (guard : Rights) → IsNew y.levels.segs u → first_free y.levels.pages < length y.levels.pages → 1 ≤ len → len ≤ MOST_WORDS
       → Runs go (made_segment y u len guard) P → Runs (with_segment u len guard go) y.levels P
   runs_with_segment u len guard new room some few run = (room, ((new, omega (arith, room, h.slots), some, few), run))
 
@@ -49,7 +50,7 @@ module _ {y : System} {f : Flat} (h : StandsFor y f) (go : Plan) (P : Levels →
       let here : IsSome (at y.levels.dirs u) = ap is_some (h.dirs u ∙ ap (λ (p : Option Directory). option_map (λ (d : Directory). d.guard) p) live) in
       let there : IsSome (at y.levels.types.objects u) = ap is_some (h.objects u ∙ (ap (λ (p : Option Object). object_row p (at f.dirs u)) (no_object sound u x live) ∙ ap (object_row None) live)) in
       let seg = h.reps u x live in
-      (here, (there, rw (rep_of_directory h sound u x live) (ap is_some seg.1, ((is_taken h x.rep 512 x.guard.0 seg).0, run))))
+      (here, (there, rw (rep_of_directory h sound u x live) (ap is_some seg.1, ((is_taken h x.rep MOST_WORDS x.guard.0 seg).0, run))))
 
   -- a new identifier has no row at level 9
   no_object_row : (u : ℕ) → at f.objects u ≡ None → at f.dirs u ≡ None → at y.levels.types.objects u ≡ None
@@ -57,7 +58,7 @@ module _ {y : System} {f : Flat} (h : StandsFor y f) (go : Plan) (P : Levels →
 
   -- an object is made: its type is live, it names nothing yet, the identifier of its representation is new at level 8, and a slot is free
   pub runs_make_object : (u : ℕ) (o : Object) (len : ℕ) → at f.objects u ≡ None → at f.dirs u ≡ None → IsSome (at f.types o.of)
-      → IsNew y.levels.segs o.rep → first_free y.levels.pages < length y.levels.pages → 1 ≤ len → len ≤ 512
+      → IsNew y.levels.segs o.rep → first_free y.levels.pages < length y.levels.pages → 1 ≤ len → len ≤ MOST_WORDS
       → Runs go (made_object y u o len) P
       → Runs (with_segment o.rep len (record { 0 = 1 }) (Ask (ObjMake (uid u) (Some (uid o.of)) (full o.rep)) (λ a. if_done a go))) y.levels P
   runs_make_object u o len no_obj no_dir typ new room some few run =
@@ -68,7 +69,7 @@ module _ {y : System} {f : Flat} (h : StandsFor y f) (go : Plan) (P : Levels →
   pub runs_make_directory : (u rep : ℕ) (guard : Rights) → at f.objects u ≡ None → at f.dirs u ≡ None
       → IsNew y.levels.segs rep → first_free y.levels.pages < length y.levels.pages
       → Runs go (made_directory y u rep guard) P
-      → Runs (with_segment rep 512 guard (Ask (ObjMake (uid u) None (full rep)) (λ a. if_done a (Ask (DirMake (uid u) guard) (λ b. if_done b go))))) y.levels P
+      → Runs (with_segment rep MOST_WORDS guard (Ask (ObjMake (uid u) None (full rep)) (λ a. if_done a (Ask (DirMake (uid u) guard) (λ b. if_done b go))))) y.levels P
   runs_make_directory u rep guard no_obj no_dir new room run =
       let no_guard : at y.levels.dirs u ≡ None = h.dirs u ∙ ap (λ (p : Option Directory). option_map (λ (d : Directory). d.guard) p) no_dir in
       (room, ((new, omega (arith, room, h.slots), omega arith, omega arith), ((no_object_row u no_obj no_dir, tt), (no_guard, run))))

@@ -2,6 +2,7 @@
 use Rattle.std.proofs.Common.{◌≡◌, ℕ, ◌+◌, ◌≤◌, ◌<◌, Bool, true, Some, None, IsSome, List, [], ◌∷◌, length, refl, sym, subst, ap, ◌∙◌, arith}
 use Rattle.std.specs.Prelude.{nat_lt, nat_le, is_some}
 use Rattle.std.proofs.lemmas.Bool.{and_parts, ltb-true, leb-true}
+use Rattle.psos_limits.specs.declared.TheConstants.{MOST_WORDS, MOST_OBJECTS}
 use Rattle.psos_table.specs.Table.{Table, at, size}
 use Rattle.psos_table.proofs.Tables.{at-put_apart}
 use Rattle.psos_caps.specs.Capability.{Capability, full}
@@ -67,10 +68,10 @@ use Rattle.psos_agree.specs.Changes.{IsAlone, HasRead, made_segment, made_object
 -- what a length that passes its test is
 record IsLength (len : ℕ) : Type 0 where
   some : 1 ≤ len
-  few : len ≤ 512
+  few : len ≤ MOST_WORDS
 
 length_is : (len : ℕ) → is_length len ≡ true → IsLength len
-length_is len e = let two = and_parts (nat_lt 0 len) (nat_le len 512) e in record { some = ltb-true 0 len two.0; few = leb-true len 512 two.1 }
+length_is len e = let two = and_parts (nat_lt 0 len) (nat_le len MOST_WORDS) e in record { some = ltb-true 0 len two.0; few = leb-true len MOST_WORDS two.1 }
 
 -- the levels with another next identifier
 abbrev given : System → ℕ → System
@@ -94,7 +95,7 @@ module _ {s : Script} {y : System} {f : Flat} (h : StandsFor y f) (sound : IsSou
   still_read slots read u len guard past =
       let free = first_free y.levels.pages in
       let slot = slot_of y.levels.segs d.rep in
-      read_made y.levels.pages y.levels.segs d.rep slot slots read u (record { slot = free; len = len; guard = guard }) (λ e. rep_apart u past (sym e)) free (Some (zeros 512)) (free_apart y.levels.pages slot (rep_taken h dir d live slot slots read).0)
+      read_made y.levels.pages y.levels.segs d.rep slot slots read u (record { slot = free; len = len; guard = guard }) (λ e. rep_apart u past (sym e)) free (Some (zeros MOST_WORDS)) (free_apart y.levels.pages slot (rep_taken h dir d live slot slots read).0)
 
   -- and it stays alone
   still_alone : (u len : ℕ) (guard : Rights) → f.next ≤ u → IsAlone (changed f (MakeSegment u len guard)) dir d
@@ -103,7 +104,7 @@ module _ {s : Script} {y : System} {f : Flat} (h : StandsFor y f) (sound : IsSou
 -- ---- what is made once there is room for it and for its entry
 
 module _ {s : Script} {y : System} {f : Flat} {u : ℕ} (x : User) {request : Request} (r : Ready s y f u x request) (rd : ℕ) (small : rd < 16) (name : Name) (named : IsName name) (dir : Capability) (d : Directory) (live : at f.dirs dir.uid ≡ Some d)
-    (slots : List Slot) (read : HasRead y.levels.pages y.levels.segs d.rep (slot_of y.levels.segs d.rep) slots) (few : size f.life < 512) (k : ℕ) (place : slot_for slots ≡ Some k) (new : find slots name ≡ None) where
+    (slots : List Slot) (read : HasRead y.levels.pages y.levels.segs d.rep (slot_of y.levels.segs d.rep) slots) (few : size f.life < MOST_OBJECTS) (k : ℕ) (place : slot_for slots ≡ Some k) (new : find slots name ≡ None) where
   abbrev h : StandsFor y f
   h = r.stands
 
@@ -160,7 +161,7 @@ module _ {s : Script} {y : System} {f : Flat} {u : ℕ} (x : User) {request : Re
       )
 
   runs_directory : (guard : Rights)
-      → Runs (with_fresh (λ cap. with_fresh (λ rep. with_segment rep.uid 512 guard (Ask (ObjMake (uid cap.uid) None rep) (λ a. if_done a (Ask (DirMake (uid cap.uid) guard) (λ b. if_done b (enrols kinds.Directory cap)))))))) y.levels
+      → Runs (with_fresh (λ cap. with_fresh (λ rep. with_segment rep.uid MOST_WORDS guard (Ask (ObjMake (uid cap.uid) None rep) (λ a. if_done a (Ask (DirMake (uid cap.uid) guard) (λ b. if_done b (enrols kinds.Directory cap)))))))) y.levels
       (Meets x y f (makes f (MakeDirectory f.next (f.next + 1) guard) dir name kinds.Directory (Fresh ∷ []) rd))
   runs_directory guard =
       let is_new = new_at h r.sound (n + 1) rep_past in
@@ -175,7 +176,7 @@ module _ {s : Script} {y : System} {f : Flat} {u : ℕ} (x : User) {request : Re
         (
           omega (arith, h.next, r.room),
           runs_make_directory stands_twice (enrols kinds.Directory (full n)) (Meets x y f made) n (n + 1) guard no_object no_directory is_new room
-              (runs_last x r rd small name named dir d live slots read few k place new kinds.Directory (making f.next) (Fresh ∷ []) None now refl (made_directory twice n (n + 1) guard) refl (stands_directory_made stands_twice n (n + 1) guard no_object no_directory is_new.0 room) there single (still_read h r.sound dir.uid d live slots read (n + 1) 512 guard rep_past)),
+              (runs_last x r rd small name named dir d live slots read few k place new kinds.Directory (making f.next) (Fresh ∷ []) None now refl (made_directory twice n (n + 1) guard) refl (stands_directory_made stands_twice n (n + 1) guard no_object no_directory is_new.0 room) there single (still_read h r.sound dir.uid d live slots read (n + 1) MOST_WORDS guard rep_past)),
         ),
       )
 
@@ -215,7 +216,7 @@ mkdir_agrees rd rs name g s y f u x r =
     let h = r.stands in
     runs_cap x h (word_at (here x) rs) _ _ _ (λ dir is_dir.
     let last : Opened → ℕ → Capability → Plan = λ d k cap. Ask (DirMake (uid cap.uid) (guard_of g)) (λ b. if_done b (enrolled d k name kinds.Directory cap rd)) in
-    let go : Opened → ℕ → Plan = λ d k. with_fresh (λ cap. with_fresh (λ rep. with_segment rep.uid 512 (guard_of g) (Ask (ObjMake (uid cap.uid) None rep) (λ a. if_done a (last d k cap))))) in
+    let go : Opened → ℕ → Plan = λ d k. with_fresh (λ cap. with_fresh (λ rep. with_segment rep.uid MOST_WORDS (guard_of g) (Ask (ObjMake (uid cap.uid) None rep) (λ a. if_done a (last d k cap))))) in
     let made : Outcome = makes f (MakeDirectory f.next (f.next + 1) (guard_of g)) dir name kinds.Directory (Fresh ∷ []) rd in
     runs_make_in x h r.sound dir name go made (λ few d live slots read k place new.
     runs_directory x r rd r.in_range.0 name r.in_range.2 dir d live slots read few k place new (guard_of g)))

@@ -3,6 +3,7 @@ use Rattle.std.proofs.Common.{◌≡◌, ℕ, Bool, Option, Some, None, List, []
 use Rattle.std.specs.FinMap.{empty_of_len, get-empty, get, len}
 use Rattle.std.proofs.lemmas.Bool.{eqb-true}
 use Rattle.std.proofs.lemmas.Option.{none-some}
+use Rattle.psos_limits.specs.declared.TheConstants.{MOST_WORDS}
 use Rattle.psos_table.specs.Table.{Table, at}
 use Rattle.psos_table.proofs.Tables.{at-without_apart}
 use Rattle.psos_text.specs.declared.name.Name.{Name}
@@ -70,7 +71,7 @@ module _ (x : User) {s : Script} {y : System} {f : Flat} (h : StandsFor y f) (so
   -- what was read of the directory stays where another segment goes
   still_read : (u size guard : ℕ) → IsLive y u size guard → (z.rep ≡ u → ⊥) → HasRead (gone_segment y u).pages (gone_segment y u).segs z.rep slot slots
   still_read u size guard at_u apart =
-      read_gone y.levels.pages y.levels.segs (gone_segment y u).segs z.rep slot slots read u apart refl (slot_of y.levels.segs u) None (λ e. apart (slots_apart h z.rep u 512 z.guard.0 size guard (h.reps d z live) at_u e))
+      read_gone y.levels.pages y.levels.segs (gone_segment y u).segs z.rep slot slots read u apart refl (slot_of y.levels.segs u) None (λ e. apart (slots_apart h z.rep u MOST_WORDS z.guard.0 size guard (h.reps d z live) at_u e))
 
   -- a segment is no representation of the directory
   segment_apart : (u : ℕ) (t : Segment) → at f.segments u ≡ Some t → z.rep ≡ u → ⊥
@@ -121,7 +122,7 @@ module _ (x : User) {s : Script} {y : System} {f : Flat} (h : StandsFor y f) (so
         let now : Flat = changed f (DropDirectory n) in
         let single : IsAlone now d z = record { segments = was.segments; dirs = was.dirs } in
         runs_drop_directory h last (Meets x y f made) s sound n w at_n
-        (runs_forgotten x (gone_directory y n w.rep) now (stands_directory_gone h sound n w at_n) d z (at-without_apart f.dirs n d apart ∙ live) single slot slots (still_read w.rep 512 w.guard.0 (h.reps n w at_n) rep_apart) name changes None found there n refl told)))))
+        (runs_forgotten x (gone_directory y n w.rep) now (stands_directory_gone h sound n w at_n) d z (at-without_apart f.dirs n d apart ∙ live) single slot slots (still_read w.rep MOST_WORDS w.guard.0 (h.reps n w at_n) rep_apart) name changes None found there n refl told)))))
 
   -- each kind of user object
   runs_dropped : (e : Named) → named z name ≡ Some e → (kind : Kind) → at f.life n ≡ Some kind → Runs (drop_kind kind n last) y.levels (Meets x y f (drops f kind n entry_gone))

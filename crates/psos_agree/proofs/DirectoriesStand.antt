@@ -6,6 +6,7 @@ use Rattle.std.specs.Option.{option_map}
 use Rattle.std.proofs.lemmas.Option.{same_Some, none-some}
 use Rattle.std.proofs.lemmas.Bool.{cases_eq, ne_eqb}
 use Rattle.std.proofs.lemmas.Map.Entries.{option_filter}
+use Rattle.psos_limits.specs.declared.TheConstants.{MOST_WORDS}
 use Rattle.psos_caps.specs.declared.rights.Rights.{Rights}
 use Rattle.psos_table.specs.Table.{Table, at, put, without, kept}
 use Rattle.psos_table.proofs.Tables.{at-put_here, at-put_apart, at-without_here, at-without_apart, at-kept, row-without, same_table}
@@ -51,7 +52,7 @@ abbrev pub new_directory : ℕ → Rights → Directory
 new_directory rep guard = record { guard = guard; rep = rep; names = empty }
 
 -- words of data 0 hold no entries
-no_entries : (rep : ℕ) (guard : Rights) → HoldsEntries (zeros 512) (new_directory rep guard)
+no_entries : (rep : ℕ) (guard : Rights) → HoldsEntries (zeros MOST_WORDS) (new_directory rep guard)
 no_entries rep guard = record { slots = root_entries.slots; decodes = root_entries.decodes; entries = root_entries.entries }
 
 -- a directory is made, on an identifier that names no object and no directory, with a representation whose identifier is new at level 8, in a slot that is free
@@ -64,9 +65,9 @@ stands_directory_made {y = y} {f = f} h u rep guard no_obj no_dir new room =
     let slot = first_free pages in
     let free = first_is_free pages in
     let k = slotted h in
-    let now = made_slotted s pages k rep slot 512 guard new free room in
+    let now = made_slotted s pages k rep slot MOST_WORDS guard new free room in
     let d : Directory = new_directory rep guard in
-    let segs : Table SegRow = put s.segments rep (record { slot = slot; len = 512; guard = guard }) in
+    let segs : Table SegRow = put s.segments rep (record { slot = slot; len = MOST_WORDS; guard = guard }) in
     let words : ℕ → List Word = λ v. stored (record y { levels = made_directory y u rep guard }) v in
     record {
       next = h.next;
@@ -78,10 +79,10 @@ stands_directory_made {y = y} {f = f} h u rep guard no_obj no_dir new room =
       users = h.users;
       dirs = guard_put y.levels.dirs f.dirs h.dirs u d;
       objects = directory_put y.levels.types.objects f.objects f.dirs h.objects u no_obj d;
-      segments = λ v r is. made_live_still s pages k rep slot 512 guard new free room v (length r.words) r.guard.0 (h.segments v r is);
+      segments = λ v r is. made_live_still s pages k rep slot MOST_WORDS guard new free room v (length r.words) r.guard.0 (h.segments v r is);
       reps = λ v x is. elim (row_of_put f.dirs u d v x is) [
-        | inl a ↦ subst (λ (z : Directory). IsLiveIn segs z.rep 512 z.guard.0) (sym a.1) (made_live_here s pages k rep slot 512 guard new free room)
-        | inr a ↦ made_live_still s pages k rep slot 512 guard new free room x.rep 512 x.guard.0 (h.reps v x a.1)
+        | inl a ↦ subst (λ (z : Directory). IsLiveIn segs z.rep MOST_WORDS z.guard.0) (sym a.1) (made_live_here s pages k rep slot MOST_WORDS guard new free room)
+        | inr a ↦ made_live_still s pages k rep slot MOST_WORDS guard new free room x.rep MOST_WORDS x.guard.0 (h.reps v x a.1)
       ];
       no_other = λ v r is. elim (row_of_put s.segments rep _ v r is) [
         | inl a ↦ inr (u, (d, at-put_here f.dirs u d, sym a.0))
@@ -97,12 +98,12 @@ stands_directory_made {y = y} {f = f} h u rep guard no_obj no_dir new room =
       used = now.used;
       slots = now.slots;
       words = λ v r is i below.
-          ap (λ (ws : List Word). word_at ws i) (made_words_still s pages k rep slot 512 guard new free room v (length r.words) r.guard.0 (h.segments v r is)) ∙ h.words v r is i below;
+          ap (λ (ws : List Word). word_at ws i) (made_words_still s pages k rep slot MOST_WORDS guard new free room v (length r.words) r.guard.0 (h.segments v r is)) ∙ h.words v r is i below;
       entries = λ v x is. elim (row_of_put f.dirs u d v x is) [
         | inl a ↦
-            let here : HoldsEntries (words rep) d = subst (λ (ws : List Word). HoldsEntries ws d) (sym (made_words_here s pages k rep slot 512 guard new free room)) (no_entries rep guard) in
+            let here : HoldsEntries (words rep) d = subst (λ (ws : List Word). HoldsEntries ws d) (sym (made_words_here s pages k rep slot MOST_WORDS guard new free room)) (no_entries rep guard) in
             subst (λ (z : Directory). HoldsEntries (words z.rep) z) (sym a.1) here
-        | inr a ↦ subst (λ (ws : List Word). HoldsEntries ws x) (sym (made_words_still s pages k rep slot 512 guard new free room x.rep 512 x.guard.0 (h.reps v x a.1))) (h.entries v x a.1)
+        | inr a ↦ subst (λ (ws : List Word). HoldsEntries ws x) (sym (made_words_still s pages k rep slot MOST_WORDS guard new free room x.rep MOST_WORDS x.guard.0 (h.reps v x a.1))) (h.entries v x a.1)
       ];
     }
 
@@ -144,7 +145,7 @@ stands_directory_gone {s = s} {y = y} {f = f} h sound u x live =
       segments = λ v r is. gone_live_still segs pages k rep old.0 old.1 v (length r.words) r.guard.0 (flat_apart v r is) (h.segments v r is);
       reps = λ v z is.
           let was = row-without f.dirs u v z is in
-          gone_live_still segs pages k rep old.0 old.1 z.rep 512 z.guard.0 (rep_apart v z was.0 was.1) (h.reps v z was.0);
+          gone_live_still segs pages k rep old.0 old.1 z.rep MOST_WORDS z.guard.0 (rep_apart v z was.0 was.1) (h.reps v z was.0);
       no_other = λ v r is.
           let was = row-without segs.segments rep v r is in
           elim (h.no_other v r was.0) [
@@ -163,5 +164,5 @@ stands_directory_gone {s = s} {y = y} {f = f} h sound u x live =
           ap (λ (ws : List Word). word_at ws i) (gone_words_still segs pages k rep old.0 old.1 v (length r.words) r.guard.0 (flat_apart v r is) (h.segments v r is)) ∙ h.words v r is i below;
       entries = λ v z is.
           let was = row-without f.dirs u v z is in
-          subst (λ (ws : List Word). HoldsEntries ws z) (sym (gone_words_still segs pages k rep old.0 old.1 z.rep 512 z.guard.0 (rep_apart v z was.0 was.1) (h.reps v z was.0))) (h.entries v z was.0);
+          subst (λ (ws : List Word). HoldsEntries ws z) (sym (gone_words_still segs pages k rep old.0 old.1 z.rep MOST_WORDS z.guard.0 (rep_apart v z was.0 was.1) (h.reps v z was.0))) (h.entries v z was.0);
     }

@@ -4,6 +4,7 @@ use Rattle.std.specs.Option.{option_map}
 use Rattle.std.proofs.Math.Seq.{take-add, take-length}
 use Rattle.std.proofs.lemmas.Bool.{false≢true}
 use Rattle.std.proofs.lemmas.List.{take-append-drop, length-take-le}
+use Rattle.psos_limits.specs.declared.TheConstants.{MOST_WORDS}
 use Rattle.psos_table.specs.Table.{at}
 use Rattle.psos_caps.specs.Capability.{Capability}
 use Rattle.psos_caps.specs.declared.rights.Rights.{Rights}
@@ -56,7 +57,7 @@ or_true true b e = refl
 or_true false b e = e
 
 -- the words in a slot are read page by page
-module _ (l : Levels) (slot : ℕ) (slots : List Slot) (taken : IsTaken l.pages slot) (long : length (slot_words l.pages slot) ≡ 512) (is : decode (slot_words l.pages slot) ≡ Some slots)
+module _ (l : Levels) (slot : ℕ) (slots : List Slot) (taken : IsTaken l.pages slot) (long : length (slot_words l.pages slot) ≡ MOST_WORDS) (is : decode (slot_words l.pages slot) ≡ Some slots)
     (go : Opened → Plan) (P : Levels → Reply → Effect → Type 0) (rest : Runs (go (record { slot = slot; slots = slots })) l P) where
   -- words that are the whole directory
   runs_opened : (words : List Word) → decode words ≡ Some slots → Runs (opened slot words go) l P
@@ -132,8 +133,8 @@ module _ {s : Script} {y : System} {f : Flat} (h : StandsFor y f) (sound : IsSou
     -- its representation is read
     pub runs_rep : Runs (read_rep x.rep go) y.levels P
     runs_rep =
-        let row = row_of y x.rep 512 x.guard.0 (h.reps d x live) in
-        let mine = is_taken h x.rep 512 x.guard.0 (h.reps d x live) in
+        let row = row_of y x.rep MOST_WORDS x.guard.0 (h.reps d x live) in
+        let mine = is_taken h x.rep MOST_WORDS x.guard.0 (h.reps d x live) in
         let holds = h.entries d x live in
         let slot = slot_of y.levels.segs x.rep in (
           some_row (at y.levels.segs.segments x.rep) row.row row.live,

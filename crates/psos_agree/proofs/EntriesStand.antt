@@ -8,6 +8,7 @@ use Rattle.std.proofs.lemmas.List.{get_or_past}
 use Rattle.std.proofs.lemmas.Map.Text.{is_eq-slice_cmp}
 use Rattle.std.proofs.lemmas.Option.{same_Some, none-some, slice_get_within}
 use Rattle.std.proofs.lemmas.Slice.Eq.{bytes_eq-Decides}
+use Rattle.psos_limits.specs.declared.TheConstants.{MOST_WORDS, MOST_ENTRIES}
 use Rattle.psos_table.specs.Table.{at, edit}
 use Rattle.psos_table.proofs.Tables.{at-edit_here, at-edit_apart}
 use Rattle.psos_caps.specs.Capability.{full}
@@ -93,20 +94,20 @@ find_named words d slots holds is name =
     ap (λ (l : List Slot). option_map named_of (find l name)) same ∙ holds.entries name
 
 -- a directory has 127 entry slots
-pub slots_few : (words : List Word) (slots : List Slot) → length words ≡ 512 → decode words ≡ Some slots → length slots ≡ 127
+pub slots_few : (words : List Word) (slots : List Slot) → length words ≡ MOST_WORDS → decode words ≡ Some slots → length slots ≡ MOST_ENTRIES
 slots_few words slots long is =
     let d = decoded words slots long is in
     let count = d.count in
-    ap length d.is ∙ omega (arith, length-take 127 d.all)
+    ap length d.is ∙ omega (arith, length-take MOST_ENTRIES d.all)
 
 -- the least slot that is not used is one of them
-pub slot_small : (words : List Word) (slots : List Slot) (k : ℕ) → length words ≡ 512 → decode words ≡ Some slots → slot_for slots ≡ Some k → k < 127
+pub slot_small : (words : List Word) (slots : List Slot) (k : ℕ) → length words ≡ MOST_WORDS → decode words ≡ Some slots → slot_for slots ≡ Some k → k < MOST_ENTRIES
 slot_small words slots k long is slot =
     let few = slots_few words slots long is in
     omega (arith, free-within (free-at 0 k slots (slot ∙ ap (λ (n : ℕ). Some n) {x = k} {y = 0 + k} (omega arith))))
 
 -- and so is the slot of what is found
-pub found_small : (words : List Word) (slots : List Slot) (name : Name) (found : Found) → length words ≡ 512 → decode words ≡ Some slots → find slots name ≡ Some found → found.slot < 127
+pub found_small : (words : List Word) (slots : List Slot) (name : Name) (found : Found) → length words ≡ MOST_WORDS → decode words ≡ Some slots → find slots name ≡ Some found → found.slot < MOST_ENTRIES
 found_small words slots name found long is there =
     let few = slots_few words slots long is in
     let inside = slice_get_within slots found.slot (Used found.entry) (slot_found slots name found there).0 in
@@ -121,7 +122,7 @@ pub length-written : (words : List Word) (i : ℕ) (more : List Word) → length
 length-written words i more = ap length (sym (same_written words i more)) ∙ written-length words i more
 
 -- the words of a new entry, in the least slot that is not used
-pub holds_added : (words : List Word) (d : Directory) (slots : List Slot) (k : ℕ) (e : Entry) → length words ≡ 512 → HoldsEntries words d → decode words ≡ Some slots → slot_for slots ≡ Some k → find slots e.name ≡ None → IsName e.name
+pub holds_added : (words : List Word) (d : Directory) (slots : List Slot) (k : ℕ) (e : Entry) → length words ≡ MOST_WORDS → HoldsEntries words d → decode words ≡ Some slots → slot_for slots ≡ Some k → find slots e.name ≡ None → IsName e.name
     → HoldsEntries (written words (4 * k) (entry_words e.name e.cap e.kept)) (with_entry e.name (record { cap = e.cap; kept = e.kept }) d)
 holds_added words d slots k e long holds is slot new is_name =
     let added = entry-added words slots k e (record { whole = record { long = long; decoded = is }; slot = slot; new = new; named = is_name }) in
@@ -138,7 +139,7 @@ holds_added words d slots k e long holds is slot new is_name =
     }
 
 -- the words of a free slot, over what is found
-pub holds_removed : (words : List Word) (d : Directory) (slots : List Slot) (name : Name) (found : Found) → length words ≡ 512 → HoldsEntries words d → decode words ≡ Some slots → find slots name ≡ Some found
+pub holds_removed : (words : List Word) (d : Directory) (slots : List Slot) (name : Name) (found : Found) → length words ≡ MOST_WORDS → HoldsEntries words d → decode words ≡ Some slots → find slots name ≡ Some found
     → HoldsEntries (written words (4 * found.slot) gone_words) (without_entry name d)
 holds_removed words d slots name found long holds is there =
     let at_slot = slot_found slots name found there in
@@ -220,13 +221,13 @@ module _ (f : Flat) (d : ℕ) (x : Directory) (live : at f.dirs d ≡ Some x) (g
 
 -- words that hold other entries of a directory go into the slot of its representation
 pub stands_rep : {y : System} {f : Flat} → StandsFor y f → (d : ℕ) (x : Directory) → at f.dirs d ≡ Some x → IsAlone f d x → (g : Directory → Directory) → KeepsRep x (g x)
-    → (words : List Word) → length words ≡ 512 → HoldsEntries words (g x)
+    → (words : List Word) → length words ≡ MOST_WORDS → HoldsEntries words (g x)
     → StandsFor (record y { levels = with_rep y x.rep words }) (record f { dirs = edit f.dirs d g })
 stands_rep {y = y} {f = f} h d x live single g keeps words long holds =
     let slot = slot_of y.levels.segs x.rep in
     let pages = y.levels.pages in
-    let row = row_of y x.rep 512 x.guard.0 (h.reps d x live) in
-    let mine = is_taken h x.rep 512 x.guard.0 (h.reps d x live) in
+    let row = row_of y x.rep MOST_WORDS x.guard.0 (h.reps d x live) in
+    let mine = is_taken h x.rep MOST_WORDS x.guard.0 (h.reps d x live) in
     record {
       next = h.next;
       codes = h.codes;
@@ -262,12 +263,12 @@ stands_rep {y = y} {f = f} h d x live single g keeps words long holds =
       ];
       slots = length-set pages slot (Some words) ∙ h.slots;
       words = λ v r is j at_j.
-          let far : slot_of y.levels.segs v ≡ slot → ⊥ = λ e. single.segments v r is (slots_apart h v x.rep (length r.words) r.guard.0 512 x.guard.0 (h.segments v r is) (h.reps d x live) e) in
+          let far : slot_of y.levels.segs v ≡ slot → ⊥ = λ e. single.segments v r is (slots_apart h v x.rep (length r.words) r.guard.0 MOST_WORDS x.guard.0 (h.segments v r is) (h.reps d x live) e) in
           rw (slot_words-set_apart pages slot (slot_of y.levels.segs v) (Some words) far) (h.words v r is j at_j);
       entries = λ v r is. elim (edited_dir f d x live g v r is) [
         | inl same ↦ edited_words f d x live g keeps (set pages slot (Some words)) y.levels.segs words (slot_words-set_here pages slot words mine.0) holds r same.1
         | inr other ↦
-            let far : slot_of y.levels.segs r.rep ≡ slot → ⊥ = λ e. other.0 (single.dirs v r other.1 (slots_apart h r.rep x.rep 512 r.guard.0 512 x.guard.0 (h.reps v r other.1) (h.reps d x live) e)) in
+            let far : slot_of y.levels.segs r.rep ≡ slot → ⊥ = λ e. other.0 (single.dirs v r other.1 (slots_apart h r.rep x.rep MOST_WORDS r.guard.0 MOST_WORDS x.guard.0 (h.reps v r other.1) (h.reps d x live) e)) in
             rw (slot_words-set_apart pages slot (slot_of y.levels.segs r.rep) (Some words) far) (h.entries v r other.1)
       ];
     }

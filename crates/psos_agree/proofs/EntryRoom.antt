@@ -13,6 +13,7 @@ use Rattle.std.specs.FinMap.Entries.{by_order}
 use Rattle.std.proofs.lemmas.Bool.{false≢true, and_parts, ne_eqb, lt-ltb, le-ltb}
 use Rattle.std.proofs.lemmas.Option.{none-some}
 use Rattle.std.proofs.lemmas.Slice.Eq.{bytes_eq-Decides}
+use Rattle.psos_limits.specs.declared.TheConstants.{MOST_WORDS, MOST_ENTRIES}
 use Rattle.psos_table.specs.Table.{at}
 use Rattle.psos_text.specs.declared.name.Name.{Name}
 use Rattle.psos_words.specs.declared.word.Word.{Word}
@@ -169,9 +170,9 @@ apart_front (suc n) (Used x ∷ rest) e =
     let two = and_parts (not (list_any (has_name x.name) rest)) (are_apart rest) e in
     ap (λ (b : Bool). not b && are_apart (take n rest)) (any_front (has_name x.name) n rest (not-true (list_any (has_name x.name) rest) two.0)) ∙ apart_front n rest two.1
 
-module _ (words : List Word) (d : Directory) (slots : List Slot) (long : length words ≡ 512) (holds : HoldsEntries words d) (is : decode words ≡ Some slots) where
+module _ (words : List Word) (d : Directory) (slots : List Slot) (long : length words ≡ MOST_WORDS) (holds : HoldsEntries words d) (is : decode words ≡ Some slots) where
   slots_apart : are_apart slots ≡ true
-  slots_apart = let w = decoded words slots long is in ap are_apart w.is ∙ apart_front 127 w.all w.apart
+  slots_apart = let w = decoded words slots long is in ap are_apart w.is ∙ apart_front MOST_ENTRIES w.all w.apart
 
   map_is : entry_map slots ≡ d.names
   map_is = same_map name_cmp_total orders.same_name (entry_map slots) d.names (λ q. entry_map-get 0 slots q ∙ find_named words d slots holds is q)
@@ -193,17 +194,17 @@ module _ (words : List Word) (d : Directory) (slots : List Slot) (long : length 
       by (x ∷ rest) e = let some : suc (length rest) ≡ len d.names = e in sym (ne_eqb (len d.names) 0 (λ none. absurd (omega (arith, some, none))))
 
   -- no slot for one more, or one
-  pub full_is : slot_for slots ≡ None → nat_lt (len d.names) 127 ≡ false
+  pub full_is : slot_for slots ≡ None → nat_lt (len d.names) MOST_ENTRIES ≡ false
   full_is e =
       let count = count_is in
       let few = slots_few words slots long is in
-      le-ltb (len d.names) 127 (omega (arith, all_used 0 slots e))
+      le-ltb (len d.names) MOST_ENTRIES (omega (arith, all_used 0 slots e))
 
-  pub roomy_is : (k : ℕ) → slot_for slots ≡ Some k → nat_lt (len d.names) 127 ≡ true
+  pub roomy_is : (k : ℕ) → slot_for slots ≡ Some k → nat_lt (len d.names) MOST_ENTRIES ≡ true
   roomy_is k e =
       let count = count_is in
       let few = slots_few words slots long is in
-      lt-ltb (len d.names) 127 (omega (arith, some_free 0 k slots e))
+      lt-ltb (len d.names) MOST_ENTRIES (omega (arith, some_free 0 k slots e))
 
 -- ---- walks
 
@@ -236,10 +237,10 @@ module _ (u : User) {y : System} {f : Flat} (h : StandsFor y f) (d : ℕ) (x : D
       test : Bool → Outcome
       test b = if_holds b (refuse (Exhausted Entries)) res
 
-      place : find slots name ≡ None → (o : Option ℕ) → slot_for slots ≡ o → Runs (here o) y.levels (Meets u y f (test (nat_lt (len x.names) 127)))
+      place : find slots name ≡ None → (o : Option ℕ) → slot_for slots ≡ o → Runs (here o) y.levels (Meets u y f (test (nat_lt (len x.names) MOST_ENTRIES)))
       place new None e = subst (λ (b : Bool). Runs (here None) y.levels (Meets u y f (test b))) (sym (full_is _ x slots (rep_taken h d x live slot slots r).1 (rep_holds h d x live slot slots r) r.decodes e)) (refused u h (Exhausted Entries))
       place new (Some k) e = subst (λ (b : Bool). Runs (here (Some k)) y.levels (Meets u y f (test b))) (sym (roomy_is _ x slots (rep_taken h d x live slot slots r).1 (rep_holds h d x live slot slots r) r.decodes k e)) (rest k e new)
 
-      by : (o : Option Found) → find slots name ≡ o → Runs (if_none o (λ _. plans.refuse NameTaken) (here (slot_for slots))) y.levels (Meets u y f (if_none (named x name) (λ _. refuse NameTaken) (test (nat_lt (len x.names) 127))))
-      by None e = subst (λ (q : Option Named). Runs (here (slot_for slots)) y.levels (Meets u y f (if_none q (λ _. refuse NameTaken) (test (nat_lt (len x.names) 127))))) (sym (ap (option_map named_of) e) ∙ found_named) (place e (slot_for slots) refl)
-      by (Some found) e = subst (λ (q : Option Named). Runs (plans.refuse NameTaken) y.levels (Meets u y f (if_none q (λ _. refuse NameTaken) (test (nat_lt (len x.names) 127))))) (sym (ap (option_map named_of) e) ∙ found_named) (refused u h NameTaken)
+      by : (o : Option Found) → find slots name ≡ o → Runs (if_none o (λ _. plans.refuse NameTaken) (here (slot_for slots))) y.levels (Meets u y f (if_none (named x name) (λ _. refuse NameTaken) (test (nat_lt (len x.names) MOST_ENTRIES))))
+      by None e = subst (λ (q : Option Named). Runs (here (slot_for slots)) y.levels (Meets u y f (if_none q (λ _. refuse NameTaken) (test (nat_lt (len x.names) MOST_ENTRIES))))) (sym (ap (option_map named_of) e) ∙ found_named) (place e (slot_for slots) refl)
+      by (Some found) e = subst (λ (q : Option Named). Runs (plans.refuse NameTaken) y.levels (Meets u y f (if_none q (λ _. refuse NameTaken) (test (nat_lt (len x.names) MOST_ENTRIES))))) (sym (ap (option_map named_of) e) ∙ found_named) (refused u h NameTaken)

@@ -1,6 +1,7 @@
 -- The call that writes an entry of a directory, or a free slot over one, and the changes of the flat state that it stands for.
 use Rattle.std.proofs.Common.{◌≡◌, ℕ, zero, suc, ◌+◌, ◌*◌, ◌/◌, ◌%◌, ◌<◌, ◌≤◌, true, false, Option, Some, None, List, [], ◌∷◌, length, set, get_or, refl, sym, subst, ap, ◌∙◌, arith}
 use Rattle.std.proofs.lemmas.Option.{none-some}
+use Rattle.psos_limits.specs.declared.TheConstants.{MOST_WORDS}
 use Rattle.psos_table.specs.Table.{at, put, without, edit}
 use Rattle.psos_table.proofs.Tables.{at-put_apart, at-without_apart}
 use Rattle.psos_caps.specs.Capability.{Capability, full}
@@ -71,8 +72,8 @@ four_put_is l slot k words small =
 
 module _ {y : System} {f : Flat} (h : StandsFor y f) (d : ℕ) (x : Directory) (live : at f.dirs d ≡ Some x) (slot : ℕ) (slots : List Slot) (r : HasRead y.levels.pages y.levels.segs x.rep slot slots) where
   -- the slot of a representation is taken, with 512 words
-  pub rep_taken : IsTaken y.levels.pages slot × (length (slot_words y.levels.pages slot) ≡ 512)
-  rep_taken = subst (λ (n : ℕ). IsTaken y.levels.pages n × (length (slot_words y.levels.pages n) ≡ 512)) r.slot-is (is_taken h x.rep 512 x.guard.0 (h.reps d x live))
+  pub rep_taken : IsTaken y.levels.pages slot × (length (slot_words y.levels.pages slot) ≡ MOST_WORDS)
+  rep_taken = subst (λ (n : ℕ). IsTaken y.levels.pages n × (length (slot_words y.levels.pages n) ≡ MOST_WORDS)) r.slot-is (is_taken h x.rep MOST_WORDS x.guard.0 (h.reps d x live))
 
   pub rep_holds : HoldsEntries (slot_words y.levels.pages slot) x
   rep_holds = subst (λ (n : ℕ). HoldsEntries (slot_words y.levels.pages n) x) r.slot-is (h.entries d x live)
@@ -97,7 +98,7 @@ module _ {y : System} {f : Flat} (h : StandsFor y f) (d : ℕ) (x : Directory) (
       let flat : Flat = record f { dirs = edit f.dirs d g } in
       let P : ℕ → Type 0 = λ n. StandsFor (record y { levels = record y.levels { pages = set y.levels.pages n (Some after) } }) flat in
       let Q : Levels → Type 0 = λ l. StandsFor (record y { levels = l }) flat in
-      let long : length after ≡ 512 = length-written (slot_words y.levels.pages slot) (4 * k) words ∙ rep_taken.1 in
+      let long : length after ≡ MOST_WORDS = length-written (slot_words y.levels.pages slot) (4 * k) words ∙ rep_taken.1 in
       subst Q (sym (four_put_is y.levels slot k words small)) (subst P r.slot-is (stands_rep h d x live single g (record { rep = rep; guard = guard }) after long holds))
 
   -- a new entry is written into the least slot that is not used

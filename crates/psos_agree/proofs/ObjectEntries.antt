@@ -3,6 +3,7 @@ use Rattle.std.proofs.Common.{◌≡◌, ℕ, ◌<◌, ◌≤◌, Option, Some, 
 use Rattle.std.specs.Prelude.{nat_lt}
 use Rattle.std.proofs.lemmas.Bool.{cases_eq, false≢true, ltb-true}
 use Rattle.std.proofs.lemmas.Option.{same_Some}
+use Rattle.psos_limits.specs.declared.TheConstants.{MOST_WORDS, MOST_OBJECTS}
 use Rattle.psos_table.specs.Table.{Table, at, put, without, size}
 use Rattle.psos_table.proofs.Tables.{HasRow, at-put_here, at-put_apart, row-without}
 use Rattle.psos_caps.specs.Capability.{Capability, full}
@@ -110,13 +111,13 @@ module _ {s : Script} {f : Flat} (sound : IsSound s f) where
 -- ---- room for an object and for its entry
 
 module _ (u : User) {s : Script} {y : System} {f : Flat} (h : StandsFor y f) (sound : IsSound s f) where
-  pub runs_object_room : (go : Plan) (res : Outcome) → (size f.life < 512 → Runs go y.levels (Meets u y f res)) → Runs (parts.if_object_room go) y.levels (Meets u y f (outcomes.if_object_room f res))
+  pub runs_object_room : (go : Plan) (res : Outcome) → (size f.life < MOST_OBJECTS → Runs go y.levels (Meets u y f res)) → Runs (parts.if_object_room go) y.levels (Meets u y f (outcomes.if_object_room f res))
   runs_object_room go res rest =
       let k : LevelAnswer → Plan = λ a. if_done a go in
-      (tt, answers_holds u h k (λ _. refl) (nat_lt (size y.levels.life) 512) (nat_lt (size f.life) 512) (ap (λ (m : Table Kind). nat_lt (size m) 512) h.life) (Exhausted Objects) Done res (λ few. rest (ltb-true (size f.life) 512 few)))
+      (tt, answers_holds u h k (λ _. refl) (nat_lt (size y.levels.life) MOST_OBJECTS) (nat_lt (size f.life) MOST_OBJECTS) (ap (λ (m : Table Kind). nat_lt (size m) MOST_WORDS) h.life) (Exhausted Objects) Done res (λ few. rest (ltb-true (size f.life) MOST_OBJECTS few)))
 
   pub runs_make_in : (dir : Capability) (name : Name) (go : Opened → ℕ → Plan) (res : Outcome)
-      → (size f.life < 512 → (x : Directory) → at f.dirs dir.uid ≡ Some x → (slots : List Slot) → HasRead y.levels.pages y.levels.segs x.rep (slot_of y.levels.segs x.rep) slots
+      → (size f.life < MOST_OBJECTS → (x : Directory) → at f.dirs dir.uid ≡ Some x → (slots : List Slot) → HasRead y.levels.pages y.levels.segs x.rep (slot_of y.levels.segs x.rep) slots
       → (k : ℕ) → slot_for slots ≡ Some k → find slots name ≡ None → Runs (go (record { slot = slot_of y.levels.segs x.rep; slots = slots }) k) y.levels (Meets u y f res))
       → Runs (parts.make_in dir name go) y.levels (Meets u y f (outcomes.make_in f dir name res))
   runs_make_in dir name go res rest =
@@ -133,7 +134,7 @@ module _ (u : User) {y : System} {f : Flat} (l : Levels) (now : Flat) (h : Stand
     (slot : ℕ) (slots : List Slot) (read : HasRead l.pages l.segs x.rep slot slots) (name : Name) (changes : List Change) (source : Option Source) where
   -- the object is enrolled, and its distinguished entry is written
   pub runs_enrolled : IsName name → (k : ℕ) → slot_for slots ≡ Some k → find slots name ≡ None → (n m : ℕ) → n ≡ m → (kind : Kind) (rd : ℕ) → rd < 16 → changed_all f changes ≡ changed now (Register m d name kind)
-      → at l.life n ≡ None → size l.life < 512
+      → at l.life n ≡ None → size l.life < MOST_OBJECTS
       → Runs (parts.enrolled (record { slot = slot; slots = slots }) k name kind (full n) rd) l (Meets u y f (gives changes rd (Cap (full m)) source))
   runs_enrolled named k place new n m same kind rd small is absent_now few = (
     (absent_now, few),

@@ -1,6 +1,7 @@
 -- Levels that stand for a flat state still do once an object or a directory is made or goes. States docs/promises.md, "Stands for".
 use Rattle.std.proofs.Common.{◌≡◌, ℕ, ◌<◌, ◌≤◌, length, Option, Some, None, sym, ap, ◌∙◌, inl, inr}
 use Rattle.std.proofs.lemmas.Bool.{cases_eq}
+use Rattle.psos_limits.specs.declared.TheConstants.{MOST_WORDS}
 use Rattle.psos_caps.specs.Capability.{full}
 use Rattle.psos_table.specs.Table.{Table, at, put, without}
 use Rattle.psos_table.proofs.Tables.{at-put_here, at-put_apart, at-without_here, at-without_apart}
@@ -67,7 +68,7 @@ module _ (m : Table ObjRow) (objects : Table Object) (dirs : Table Directory) (e
 -- ---- an object is made
 
 -- an object is made with a representation of data 0, whose identifier is new at level 8, in a slot that is free
-pub stands_object_made : {y : System} {f : Flat} → StandsFor y f → (u : ℕ) (o : Object) (len : ℕ) → at y.levels.segs.segments o.rep ≡ None → first_free y.levels.pages < length y.levels.pages → len ≤ 512
+pub stands_object_made : {y : System} {f : Flat} → StandsFor y f → (u : ℕ) (o : Object) (len : ℕ) → at y.levels.segs.segments o.rep ≡ None → first_free y.levels.pages < length y.levels.pages → len ≤ MOST_WORDS
     → StandsFor (record y { levels = made_object y u o len }) (changed f (MakeObject u o len))
 stands_object_made {y = y} {f = f} h u o len new room few =
     let k = stands_made h o.rep len (record { 0 = 1 }) new room few in

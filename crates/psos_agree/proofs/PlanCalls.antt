@@ -1,6 +1,7 @@
 -- Each plan makes few calls, and asks for its locks in the falling order, whatever the levels answer. States docs/requests.md, "Plans" and docs/levels.md, "Locks".
 use Rattle.std.proofs.Common.{◌*◌, ◌≤◌, length, arith, ◌≡◌, ℕ, zero, suc, ◌+◌, true, false, not, cond, Some, None, List, [], ◌∷◌, ◌++◌, refl, sym, subst}
 use Rattle.std.proofs.lemmas.Bool.{and_parts, or_left}
+use Rattle.psos_limits.specs.declared.TheConstants.{MOST_WORDS}
 use Rattle.psos_caps.specs.Capability.{Capability}
 use Rattle.psos_caps.specs.declared.rights.Rights.{Rights}
 use Rattle.psos_text.specs.declared.name.Name.{Name}
@@ -229,7 +230,7 @@ module _ {users : ℕ} where
         by_fresh refl (λ new. by_segment [] new.uid len (guard_of guard) (by_enrolled [] d k name kinds.Segment new rd)))))
     plan_walked (MkDir rd rs name guard) =
         by_cap (reg x rs) _ (λ dir. by_make_in refl dir name (λ d k.
-        by_fresh refl (λ new. by_fresh refl (λ rep. by_segment [] rep.uid 512 (guard_of guard) (
+        by_fresh refl (λ new. by_fresh refl (λ rep. by_segment [] rep.uid MOST_WORDS (guard_of guard) (
         asks_held {call = ObjMake (uid new.uid) None rep} refl (λ a. by_done a (
         asks_held {call = DirMake (uid new.uid) (guard_of guard)} refl (λ b. by_done b (by_enrolled [] d k name kinds.Directory new rd)))))))))
     plan_walked (MkType rd rs name) =

@@ -3,6 +3,7 @@ use Rattle.std.proofs.Common.{◌≡◌, ℕ, ◌+◌, ◌<◌, ◌==◌, Bool, 
 use Rattle.std.specs.Prelude.{nat_lt, nat_le, slice_get, drop}
 use Rattle.std.proofs.lemmas.Bool.{ltb-true, leb-true}
 use Rattle.std.proofs.lemmas.Option.{slice_get_within}
+use Rattle.psos_limits.specs.declared.TheConstants.{MOST_CHARGE}
 use Rattle.psos_table.specs.Table.{Table, at, put, edit}
 use Rattle.psos_table.proofs.Tables.{edit_some}
 use Rattle.psos_caps.specs.Capability.{Capability, full}
@@ -189,9 +190,9 @@ call_agrees rp s y f u x r =
     let k : LevelAnswer → Plan = λ a. if_entered a enters in
     runs_cap x h (word_at (here x) rp) _ _ _ (λ cap is_cap.
     runs_holds x h (nat_lt (length x.frames) 4) _ _ _ (λ few.
-    runs_holds x h (nat_le (x.charge + 16) 4096) _ _ _ (λ paid. (
+    runs_holds x h (nat_le (x.charge + 16) MOST_CHARGE) _ _ _ (λ paid. (
       tt,
       answers_there x h k (λ _. refl) _ _ (ap (λ (t : Table CodeRow). at t cap.uid) h.codes) _ _ _ (λ code live.
           answers_holds x h k (λ _. refl) (has cap rights.Enter) _ refl _ _ _ (λ may.
-          record { reply-is = refl; effect-is = refl; stands = h; kept = tt; makes = (omega (arith, leb-true (x.charge + 16) 4096 paid), ltb-true (length x.frames) 4 few) })),
+          record { reply-is = refl; effect-is = refl; stands = h; kept = tt; makes = (omega (arith, leb-true (x.charge + 16) MOST_CHARGE paid), ltb-true (length x.frames) 4 few) })),
     ))))

@@ -4,6 +4,7 @@ use Rattle.std.specs.Prelude.{slice_index_or}
 use Rattle.std.proofs.lemmas.Option.{same_Some, none-some}
 use Rattle.std.proofs.lemmas.Bool.{cases_eq, cases_lt}
 use Rattle.std.proofs.lemmas.List.{get_or_past}
+use Rattle.psos_limits.specs.declared.TheConstants.{SLOTS, MOST_WORDS}
 use Rattle.psos_caps.specs.declared.rights.Rights.{Rights}
 use Rattle.psos_table.specs.Table.{Table, at, put, without, kept}
 use Rattle.psos_table.proofs.Tables.{at-put_here, at-put_apart, at-without_apart, row-without}
@@ -50,9 +51,9 @@ slot_is s u r live = ap (λ (o : Option SegRow). if_there o 0 (λ r. r.slot)) li
 -- live segments have different slots, and these are exactly the taken slots
 pub record IsSlotted (segs : Table SegRow) (pages : Pages) : Type 0 where
   pub apart : (u v : ℕ) (r t : SegRow) → at segs u ≡ Some r → at segs v ≡ Some t → r.slot ≡ t.slot → u ≡ v
-  pub taken : (u : ℕ) (r : SegRow) → at segs u ≡ Some r → IsTaken pages r.slot × (length (slot_words pages r.slot) ≡ 512)
+  pub taken : (u : ℕ) (r : SegRow) → at segs u ≡ Some r → IsTaken pages r.slot × (length (slot_words pages r.slot) ≡ MOST_WORDS)
   pub used : (slot : ℕ) → IsTaken pages slot → (u : ℕ) × ((r : SegRow) × (at segs u ≡ Some r) × (r.slot ≡ slot))
-  pub slots : length pages ≡ 521
+  pub slots : length pages ≡ SLOTS
 
 module _ (s : SegState) (pages : Pages) (k : IsSlotted s.segments pages) where
   abbrev segs : Table SegRow
@@ -68,7 +69,7 @@ module _ (s : SegState) (pages : Pages) (k : IsSlotted s.segments pages) where
     more = record s { segments = put s.segments u row }
 
     abbrev filled : Pages
-    filled = set pages slot (Some (zeros 512))
+    filled = set pages slot (Some (zeros MOST_WORDS))
 
     -- no live segment has a free slot
     free_apart : (v : ℕ) (t : SegRow) → at segs v ≡ Some t → t.slot ≡ slot → ⊥
@@ -79,8 +80,8 @@ module _ (s : SegState) (pages : Pages) (k : IsSlotted s.segments pages) where
     new_apart : (v : ℕ) (t : SegRow) → at segs v ≡ Some t → v ≡ u → ⊥
     new_apart v t is e = none-some t (sym new ∙ (ap (at segs) (sym e) ∙ is))
 
-    filled_here : slice_index_or filled slot None ≡ Some (zeros 512)
-    filled_here = get_or-set_same pages slot (Some (zeros 512)) None room
+    filled_here : slice_index_or filled slot None ≡ Some (zeros MOST_WORDS)
+    filled_here = get_or-set_same pages slot (Some (zeros MOST_WORDS)) None room
 
     made_apart : (v w : ℕ) (r t : SegRow) → at (put segs u row) v ≡ Some r → at (put segs u row) w ≡ Some t → r.slot ≡ t.slot → v ≡ w
     made_apart v w r t is_r is_t e = elim (row_of_put segs u row v r is_r) [
@@ -95,35 +96,35 @@ module _ (s : SegState) (pages : Pages) (k : IsSlotted s.segments pages) where
     ]
 
     abbrev IsFull : ℕ → Type 0
-    IsFull i = IsTaken filled i × (length (slot_words filled i) ≡ 512)
+    IsFull i = IsTaken filled i × (length (slot_words filled i) ≡ MOST_WORDS)
 
     made_taken : (v : ℕ) (r : SegRow) → at (put segs u row) v ≡ Some r → IsFull r.slot
     made_taken v r is = elim (row_of_put segs u row v r is) [
       | inl a ↦
-          let here : IsFull slot = ((zeros 512, filled_here), ap (λ (o : Option (List Word)). length (words_in o)) filled_here) in
+          let here : IsFull slot = ((zeros MOST_WORDS, filled_here), ap (λ (o : Option (List Word)). length (words_in o)) filled_here) in
           subst IsFull (sym (ap (λ (x : SegRow). x.slot) a.1)) here
       | inr a ↦
           let far : r.slot ≡ slot → ⊥ = free_apart v r a.1 in
           let old = k.taken v r a.1 in
-          (taken-set_apart pages slot r.slot (Some (zeros 512)) far old.0, ap length (slot_words-set_apart pages slot r.slot (Some (zeros 512)) far) ∙ old.1)
+          (taken-set_apart pages slot r.slot (Some (zeros MOST_WORDS)) far old.0, ap length (slot_words-set_apart pages slot r.slot (Some (zeros MOST_WORDS)) far) ∙ old.1)
     ]
 
     made_used : (i : ℕ) → IsTaken filled i → (v : ℕ) × ((r : SegRow) × (at (put segs u row) v ≡ Some r) × (r.slot ≡ i))
     made_used i taken = elim (cases_eq i slot) [
       | inl e ↦ (u, (row, at-put_here segs u row, sym e))
       | inr far ↦
-          let old = k.used i (taken-unset_apart pages slot i (Some (zeros 512)) far taken) in
+          let old = k.used i (taken-unset_apart pages slot i (Some (zeros MOST_WORDS)) far taken) in
           (old.0, (old.1.0, at-put_apart segs u row old.0 (new_apart old.0 old.1.0 old.1.1) ∙ old.1.1, old.1.2))
     ]
 
-    pub made_slotted : IsSlotted (put s.segments u (record { slot = slot; len = len; guard = guard })) (set pages slot (Some (zeros 512)))
-    made_slotted = record { apart = made_apart; taken = made_taken; used = made_used; slots = length-set pages slot (Some (zeros 512)) ∙ k.slots }
+    pub made_slotted : IsSlotted (put s.segments u (record { slot = slot; len = len; guard = guard })) (set pages slot (Some (zeros MOST_WORDS)))
+    made_slotted = record { apart = made_apart; taken = made_taken; used = made_used; slots = length-set pages slot (Some (zeros MOST_WORDS)) ∙ k.slots }
 
     -- the new segment, and the words of its slot
     pub made_live_here : IsLiveIn (put s.segments u (record { slot = slot; len = len; guard = guard })) u len guard.0
     made_live_here = (row, at-put_here segs u row, refl, refl)
 
-    pub made_words_here : slot_words (set pages slot (Some (zeros 512))) (slot_of (record s { segments = put s.segments u (record { slot = slot; len = len; guard = guard }) }) u) ≡ zeros 512
+    pub made_words_here : slot_words (set pages slot (Some (zeros MOST_WORDS))) (slot_of (record s { segments = put s.segments u (record { slot = slot; len = len; guard = guard }) }) u) ≡ zeros MOST_WORDS
     made_words_here = ap (slot_words filled) (slot_is more u row (at-put_here segs u row)) ∙ ap words_in filled_here
 
     -- each other segment stays, with its words
@@ -131,11 +132,11 @@ module _ (s : SegState) (pages : Pages) (k : IsSlotted s.segments pages) where
     made_live_still v n g live = (live.0, at-put_apart segs u row v (new_apart v live.0 live.1) ∙ live.1, live.2, live.3)
 
     pub made_words_still : (v n g : ℕ) → IsLiveIn s.segments v n g
-        → slot_words (set pages slot (Some (zeros 512))) (slot_of (record s { segments = put s.segments u (record { slot = slot; len = len; guard = guard }) }) v) ≡ slot_words pages (slot_of s v)
+        → slot_words (set pages slot (Some (zeros MOST_WORDS))) (slot_of (record s { segments = put s.segments u (record { slot = slot; len = len; guard = guard }) }) v) ≡ slot_words pages (slot_of s v)
     made_words_still v n g live =
         let old = slot_is s v live.0 live.1 in
         let new_slot = slot_is more v live.0 (at-put_apart segs u row v (new_apart v live.0 live.1) ∙ live.1) in
-        ap (slot_words filled) new_slot ∙ (slot_words-set_apart pages slot live.0.slot (Some (zeros 512)) (free_apart v live.0 live.1) ∙ ap (slot_words pages) (sym old))
+        ap (slot_words filled) new_slot ∙ (slot_words-set_apart pages slot live.0.slot (Some (zeros MOST_WORDS)) (free_apart v live.0 live.1) ∙ ap (slot_words pages) (sym old))
 
   -- ---- a segment goes, and frees its slot
 
@@ -161,7 +162,7 @@ module _ (s : SegState) (pages : Pages) (k : IsSlotted s.segments pages) where
     far_from : (v : ℕ) (r : SegRow) → at segs v ≡ Some r → (v ≡ u → ⊥) → r.slot ≡ slot_of s u → ⊥
     far_from v r is apart e = apart (k.apart v u r row is live (e ∙ slot_is s u row live))
 
-    gone_taken : (v : ℕ) (r : SegRow) → at (without segs u) v ≡ Some r → IsTaken emptied r.slot × (length (slot_words emptied r.slot) ≡ 512)
+    gone_taken : (v : ℕ) (r : SegRow) → at (without segs u) v ≡ Some r → IsTaken emptied r.slot × (length (slot_words emptied r.slot) ≡ MOST_WORDS)
     gone_taken v r is =
         let old = row-without segs u v r is in
         let far = far_from v r old.0 old.1 in

@@ -4,6 +4,7 @@ use Rattle.std.specs.Option.{option_map}
 use Rattle.std.proofs.lemmas.Option.{same_Some, none-some}
 use Rattle.std.proofs.lemmas.Bool.{cases_eq, cases_lt, false≢true}
 use Rattle.std.proofs.lemmas.List.{get_or_past}
+use Rattle.psos_limits.specs.declared.TheConstants.{MOST_WORDS}
 use Rattle.psos_table.specs.Table.{at, edit}
 use Rattle.psos_table.proofs.Tables.{at-edit_here, at-edit_apart}
 use Rattle.psos_words.specs.declared.word.Word.{Word}
@@ -47,10 +48,10 @@ pub taken-unset_apart : (p : Pages) (slot t : ℕ) (o : Option (List Word)) → 
 taken-unset_apart p slot t o apart taken = (taken.0, sym (get_or-set_other p slot t o None apart) ∙ taken.1)
 
 -- where a word of a segment lies
-pub page_of_word : (slot i : ℕ) → i < 512 → page_at slot i / 8 ≡ slot
+pub page_of_word : (slot i : ℕ) → i < MOST_WORDS → page_at slot i / 8 ≡ slot
 page_of_word slot i small = omega arith
 
-pub place_of_word : (slot i : ℕ) → i < 512 → place_in_slot (page_at slot i) (i % 64) ≡ i
+pub place_of_word : (slot i : ℕ) → i < MOST_WORDS → place_in_slot (page_at slot i) (i % 64) ≡ i
 place_of_word slot i small = omega arith
 
 -- ---- the rows of level 8
@@ -79,10 +80,10 @@ segment_seen s f u t sound is d row live e =
 
 module _ {y : System} {f : Flat} (h : StandsFor y f) where
   -- the slot of a live segment is taken, with 512 words
-  pub is_taken : (u n guard : ℕ) → IsLive y u n guard → IsTaken y.levels.pages (slot_of y.levels.segs u) × (length (stored y u) ≡ 512)
+  pub is_taken : (u n guard : ℕ) → IsLive y u n guard → IsTaken y.levels.pages (slot_of y.levels.segs u) × (length (stored y u) ≡ MOST_WORDS)
   is_taken u n guard live =
       let row = row_of y u n guard live in
-      let P : ℕ → Type 0 = λ slot. IsTaken y.levels.pages slot × (length (slot_words y.levels.pages slot) ≡ 512) in
+      let P : ℕ → Type 0 = λ slot. IsTaken y.levels.pages slot × (length (slot_words y.levels.pages slot) ≡ MOST_WORDS) in
       subst P (sym row.slot) (h.taken u row.row row.live)
 
   -- live segments have slots of their own
@@ -93,16 +94,16 @@ module _ {y : System} {f : Flat} (h : StandsFor y f) where
       h.apart u v a.row b.row a.live b.live (sym a.slot ∙ e ∙ b.slot)
 
   -- the word that level 7 has where level 8 says
-  pub word_there : (u : ℕ) (t : Segment) → at f.segments u ≡ Some t → (i : ℕ) → i < length t.words → length t.words ≤ 512
+  pub word_there : (u : ℕ) (t : Segment) → at f.segments u ≡ Some t → (i : ℕ) → i < length t.words → length t.words ≤ MOST_WORDS
       → word_at (slot_words y.levels.pages (page_at (slot_of y.levels.segs u) i / 8)) (place_in_slot (page_at (slot_of y.levels.segs u) i) (i % 64)) ≡ word_at (words_of f u) i
   word_there u t live i inside small =
-      let few : i < 512 = omega arith in
+      let few : i < MOST_WORDS = omega arith in
       rw (page_of_word (slot_of y.levels.segs u) i few, place_of_word (slot_of y.levels.segs u) i few) (h.words u t live i inside ∙ ap (λ (o : Option Segment). word_at (if_there o [] (λ (s : Segment). s.words)) i) (sym live))
 
-  pub can_reach : (u : ℕ) (t : Segment) → at f.segments u ≡ Some t → (i : ℕ) → i < length t.words → length t.words ≤ 512
+  pub can_reach : (u : ℕ) (t : Segment) → at f.segments u ≡ Some t → (i : ℕ) → i < length t.words → length t.words ≤ MOST_WORDS
       → IsTaken y.levels.pages (page_at (slot_of y.levels.segs u) i / 8) × (i % 64 < 64)
   can_reach u t live i inside small =
-      let few : i < 512 = omega arith in
+      let few : i < MOST_WORDS = omega arith in
       (rw (page_of_word (slot_of y.levels.segs u) i few) (is_taken u (length t.words) t.guard.0 (h.segments u t live)).0, omega arith)
 
 -- ---- a word is put
@@ -140,7 +141,7 @@ abbrev pub put_word : System → ℕ → ℕ → Word → Levels
 put_word y u i w = record y.levels { pages = set y.levels.pages (slot_of y.levels.segs u) (Some (set (stored y u) i w)) }
 
 -- a word is put into a flat segment, and into the slot of its words
-pub stands_put : {s : Script} {y : System} {f : Flat} → StandsFor y f → IsSound s f → (u : ℕ) (t : Segment) → at f.segments u ≡ Some t → (i : ℕ) → i < length t.words → length t.words ≤ 512 → (w : Word)
+pub stands_put : {s : Script} {y : System} {f : Flat} → StandsFor y f → IsSound s f → (u : ℕ) (t : Segment) → at f.segments u ≡ Some t → (i : ℕ) → i < length t.words → length t.words ≤ MOST_WORDS → (w : Word)
     → StandsFor (record y { levels = put_word y u i w }) (changed f (PutWord u i w))
 stands_put {s = s} {y = y} {f = f} h sound u t live i inside small w =
     let slot = slot_of y.levels.segs u in
@@ -190,6 +191,6 @@ stands_put {s = s} {y = y} {f = f} h sound u t live i inside small w =
             rw (slot_words-set_apart pages slot (slot_of y.levels.segs v) (Some ws) far) (h.words v r other.1 j at_j)
       ];
       entries = λ d x is.
-          let far : slot_of y.levels.segs x.rep ≡ slot → ⊥ = λ e. segment_seen s f u t sound live d x is (sym (slots_apart h x.rep u 512 x.guard.0 (length t.words) t.guard.0 (h.reps d x is) (h.segments u t live) e)) in
+          let far : slot_of y.levels.segs x.rep ≡ slot → ⊥ = λ e. segment_seen s f u t sound live d x is (sym (slots_apart h x.rep u MOST_WORDS x.guard.0 (length t.words) t.guard.0 (h.reps d x is) (h.segments u t live) e)) in
           rw (slot_words-set_apart pages slot (slot_of y.levels.segs x.rep) (Some ws) far) (h.entries d x is);
     }

@@ -2,6 +2,7 @@
 use Rattle.std.proofs.Common.{◌≡◌, ℕ, ◌+◌, ◌^◌, ◌<◌, Some, None, [], ◌∷◌, length, refl, ap, ◌∙◌, arith}
 use Rattle.std.specs.Prelude.{nat_lt}
 use Rattle.std.proofs.lemmas.Bool.{ltb-true}
+use Rattle.psos_limits.specs.declared.TheConstants.{MOST_WORDS, MOST_WINDOWS}
 use Rattle.psos_table.specs.Table.{Table, put, size}
 use Rattle.psos_caps.specs.Capability.{full}
 use Rattle.psos_caps.specs.declared.rights.Rights.{Rights}
@@ -97,7 +98,7 @@ write_agrees rs n rv s y f u x r =
           let good = view_within r.sound c.uid v is_view in
           let i = v.base + n in
           let below : i < length good.segment.words = omega (arith, ltb-true n v.len inside, good.fits) in
-          let few : i < 512 = omega (arith, good.few) in
+          let few : i < MOST_WORDS = omega (arith, good.few) in
           let slot = slot_of y.levels.segs v.seg in (
             can_reach h v.seg good.segment good.live i below good.few,
             changes_made (PutWord v.seg i w ∷ []) _ (rw (page_of_word slot i few, place_of_word slot i few) (stands_put h r.sound v.seg good.segment good.live i below good.few w)),
@@ -132,7 +133,7 @@ window_agrees rd rs base span s y f u x r =
       answers_there x h k (λ _. refl) _ _ same _ _ _ (λ v is_view.
           answers_holds x h k (λ _. refl) (has c rights.Window) _ refl _ _ _ (λ may.
           answers_holds x h k (λ _. refl) (fits_in v base span) _ refl _ _ _ (λ inside.
-          answers_holds x h k (λ _. refl) (nat_lt (size y.levels.segs.windows) 256) _ (ap (λ (m : Table WinRow). nat_lt (size m) 256) h.windows) _ _ _ (λ roomy.
+          answers_holds x h k (λ _. refl) (nat_lt (size y.levels.segs.windows) MOST_WINDOWS) _ (ap (λ (m : Table WinRow). nat_lt (size m) MOST_WINDOWS) h.windows) _ _ _ (λ roomy.
           let seen : view y.levels.segs c.uid ≡ Some v = same ∙ is_view in
           let may_make : win_room y.levels.segs c base span ≡ Done = rw (seen, may, inside, h.windows, roomy) refl in (
             omega (arith, h.next, r.room),

@@ -1,6 +1,7 @@
 -- Levels that stand for a flat state still do once a segment is made or goes. States docs/promises.md, "Stands for".
 use Rattle.std.proofs.Common.{◌≡◌, ℕ, ◌<◌, ◌≤◌, List, length, Some, None, sym, subst, ap, ◌∙◌, inl, inr, arith}
 use Rattle.std.proofs.lemmas.List.{get_or-replicate, length-replicate}
+use Rattle.psos_limits.specs.declared.TheConstants.{MOST_WORDS}
 use Rattle.psos_caps.specs.declared.rights.Rights.{Rights}
 use Rattle.psos_table.specs.Table.{Table, at, put, kept}
 use Rattle.psos_table.proofs.Tables.{at-put_here, at-put_apart, at-without_apart, row-without}
@@ -29,13 +30,13 @@ slotted h = record { apart = h.apart; taken = h.taken; used = h.used; slots = h.
 -- ---- a segment is made
 
 -- no word of a new segment is anything but data 0
-zeros_alike : (len i : ℕ) → len ≤ 512 → i < len → word_at (zeros 512) i ≡ word_at (zeros len) i
+zeros_alike : (len i : ℕ) → len ≤ MOST_WORDS → i < len → word_at (zeros MOST_WORDS) i ≡ word_at (zeros len) i
 zeros_alike len i few h =
     let none : Word = Data 0 in
-    get_or-replicate 512 i none none (omega (arith, few, h)) ∙ sym (get_or-replicate len i none none h)
+    get_or-replicate MOST_WORDS i none none (omega (arith, few, h)) ∙ sym (get_or-replicate len i none none h)
 
 -- a segment of data 0 is made, on an identifier that is new at level 8, in a slot that is free
-pub stands_made : {y : System} {f : Flat} → StandsFor y f → (u len : ℕ) (guard : Rights) → at y.levels.segs.segments u ≡ None → first_free y.levels.pages < length y.levels.pages → len ≤ 512
+pub stands_made : {y : System} {f : Flat} → StandsFor y f → (u len : ℕ) (guard : Rights) → at y.levels.segs.segments u ≡ None → first_free y.levels.pages < length y.levels.pages → len ≤ MOST_WORDS
     → StandsFor (record y { levels = made_segment y u len guard }) (changed f (MakeSegment u len guard))
 stands_made {y = y} {f = f} h u len guard new room few =
     let s = y.levels.segs in
@@ -65,7 +66,7 @@ stands_made {y = y} {f = f} h u len guard new room few =
             subst (λ (x : Segment). IsLiveIn segs v (length x.words) x.guard.0) (sym a.1) at_v
         | inr a ↦ made_live_still s pages k u slot len guard new free room v (length r.words) r.guard.0 (h.segments v r a.1)
       ];
-      reps = λ v d is. made_live_still s pages k u slot len guard new free room d.rep 512 d.guard.0 (h.reps v d is);
+      reps = λ v d is. made_live_still s pages k u slot len guard new free room d.rep MOST_WORDS d.guard.0 (h.reps v d is);
       no_other = λ v r is. elim (row_of_put s.segments u _ v r is) [
         | inl a ↦ inl (fresh, ap (at (put f.segments u fresh)) a.0 ∙ at-put_here f.segments u fresh)
         | inr a ↦ elim (h.no_other v r a.1) [
@@ -86,7 +87,7 @@ stands_made {y = y} {f = f} h u len guard new room few =
         | inr a ↦
             ap (λ (ws : List Word). word_at ws i) (made_words_still s pages k u slot len guard new free room v (length r.words) r.guard.0 (h.segments v r a.1)) ∙ h.words v r a.1 i below
       ];
-      entries = λ v d is. subst (λ (ws : List Word). HoldsEntries ws d) (sym (made_words_still s pages k u slot len guard new free room d.rep 512 d.guard.0 (h.reps v d is))) (h.entries v d is);
+      entries = λ v d is. subst (λ (ws : List Word). HoldsEntries ws d) (sym (made_words_still s pages k u slot len guard new free room d.rep MOST_WORDS d.guard.0 (h.reps v d is))) (h.entries v d is);
     }
 
 -- ---- a segment goes
@@ -114,7 +115,7 @@ stands_gone {s = s} {y = y} {f = f} h sound u t live =
       segments = λ v r is.
           let was = row-without f.segments u v r is in
           gone_live_still segs pages k u old.0 old.1 v (length r.words) r.guard.0 was.1 (h.segments v r was.0);
-      reps = λ v d is. gone_live_still segs pages k u old.0 old.1 d.rep 512 d.guard.0 (λ e. seen v d is (sym e)) (h.reps v d is);
+      reps = λ v d is. gone_live_still segs pages k u old.0 old.1 d.rep MOST_WORDS d.guard.0 (λ e. seen v d is (sym e)) (h.reps v d is);
       no_other = λ v r is.
           let was = row-without segs.segments u v r is in
           elim (h.no_other v r was.0) [
@@ -128,5 +129,5 @@ stands_gone {s = s} {y = y} {f = f} h sound u t live =
       words = λ v r is i below.
           let was = row-without f.segments u v r is in
           ap (λ (ws : List Word). word_at ws i) (gone_words_still segs pages k u old.0 old.1 v (length r.words) r.guard.0 was.1 (h.segments v r was.0)) ∙ h.words v r was.0 i below;
-      entries = λ v d is. subst (λ (ws : List Word). HoldsEntries ws d) (sym (gone_words_still segs pages k u old.0 old.1 d.rep 512 d.guard.0 (λ e. seen v d is (sym e)) (h.reps v d is))) (h.entries v d is);
+      entries = λ v d is. subst (λ (ws : List Word). HoldsEntries ws d) (sym (gone_words_still segs pages k u old.0 old.1 d.rep MOST_WORDS d.guard.0 (λ e. seen v d is (sym e)) (h.reps v d is))) (h.entries v d is);
     }

@@ -3,6 +3,7 @@ use Rattle.std.proofs.Common.{◌≡◌, ℕ, zero, suc, ◌+◌, ◌<◌, ◌�
 use Rattle.std.specs.Prelude.{is_some}
 use Rattle.std.proofs.lemmas.Option.{none-some}
 use Rattle.std.proofs.lemmas.Bool.{cases_eq}
+use Rattle.psos_limits.specs.declared.TheConstants.{MOST_OBJECTS}
 use Rattle.psos_table.specs.Table.{Table, at, put, without, size}
 use Rattle.psos_table.proofs.Tables.{HasRow, at-put_here, at-put_apart, at-without_apart, size-without_here, size-put_new, size-put_old}
 use Rattle.psos_calls.specs.declared.kind.Kind.{Kind}
@@ -158,7 +159,7 @@ module _ {s : Script} {y : System} {f : Flat} (h : StandsFor y f) (sound : IsSou
       record { key = own.key; there = own.there; is = ap (slot_of y.levels.segs) own.is ∙ (slot_is y.levels.segs used.0 used.1.0 used.1.1 ∙ used.1.2) }
 
   -- where there is room for one more user object, a slot is free
-  pub slot_is_free : size f.life < 512 → length s.users ≤ 8 → first_free y.levels.pages < length y.levels.pages
+  pub slot_is_free : size f.life < MOST_OBJECTS → length s.users ≤ 8 → first_free y.levels.pages < length y.levels.pages
   slot_is_free room few =
       let taken = keys_for_each (λ u. slot_of y.levels.segs (part u)) (first_free y.levels.pages) owners slot_owned in
       omega (arith, taken, size_boot (length s.users) f.life, h.slots, room, few)

@@ -1,6 +1,7 @@
 -- Making types and procedure records, and how a deletion begins, from levels that stand for a sound flat state.
 use Rattle.std.proofs.Common.{◌≡◌, ℕ, ◌+◌, ◌<◌, Bool, true, Option, Some, None, List, [], ◌∷◌, IsSome, refl, sym, subst, ap, ◌∙◌, arith}
 use Rattle.std.specs.Option.{option_and_then}
+use Rattle.psos_limits.specs.declared.TheConstants.{MOST_OBJECTS}
 use Rattle.psos_table.specs.Table.{Table, at, put, size}
 use Rattle.psos_caps.specs.Capability.{Capability, full}
 use Rattle.psos_text.specs.declared.name.Name.{Name}
@@ -67,11 +68,11 @@ stands_code h row =
 next_no_object : {s : Script} {y : System} {f : Flat} → StandsFor y f → IsSound s f → at y.levels.life y.levels.next ≡ None
 next_no_object {y = y} h sound = ap (λ (t : Table Kind). at t y.levels.next) h.life ∙ life_new sound y.levels.next (omega (arith, h.next))
 
-room_there : {y : System} {f : Flat} → StandsFor y f → size f.life < 512 → size y.levels.life < 512
+room_there : {y : System} {f : Flat} → StandsFor y f → size f.life < MOST_OBJECTS → size y.levels.life < MOST_OBJECTS
 room_there h few = let same = ap (λ (t : Table Kind). size t) h.life in omega (arith, same, few)
 
 module _ {s : Script} {y : System} {f : Flat} {u : ℕ} (x : User) {request : Request} (r : Ready s y f u x request) (rd : ℕ) (small : rd < 16) (name : Name) (named : IsName name) (dir : Capability) (d : Directory) (live : at f.dirs dir.uid ≡ Some d)
-    (slots : List Slot) (read : HasRead y.levels.pages y.levels.segs d.rep (slot_of y.levels.segs d.rep) slots) (few : size f.life < 512) (k : ℕ) (place : slot_for slots ≡ Some k) (new : find slots name ≡ None) where
+    (slots : List Slot) (read : HasRead y.levels.pages y.levels.segs d.rep (slot_of y.levels.segs d.rep) slots) (few : size f.life < MOST_OBJECTS) (k : ℕ) (place : slot_for slots ≡ Some k) (new : find slots name ≡ None) where
   -- what comes last in making a user object on the next identifier: it is enrolled, and its entry is written
   pub runs_last : (kind : Kind) (making : Change) (others : List Change) (source : Option Source) (now : ℕ → Flat)
       → changed_all f (making ∷ Register f.next dir.uid name kind ∷ Fresh ∷ others) ≡ changed (now f.next) (Register f.next dir.uid name kind)
@@ -82,7 +83,7 @@ module _ {s : Script} {y : System} {f : Flat} {u : ℕ} (x : User) {request : Re
       let n = y.levels.next in
       let e = r.stands.next in
       runs_enrolled x l (now n) stands dir.uid d there single (slot_of y.levels.segs d.rep) slots seen name (making ∷ Register f.next dir.uid name kind ∷ Fresh ∷ others) source named k place new n f.next e kind rd small
-      (is ∙ ap (λ (i : ℕ). changed (now i) (Register f.next dir.uid name kind)) (sym e)) (ap (λ (t : Table Kind). at t n) same ∙ next_no_object r.stands r.sound) (subst (λ (t : Table Kind). size t < 512) (sym same) (room_there r.stands few))
+      (is ∙ ap (λ (i : ℕ). changed (now i) (Register f.next dir.uid name kind)) (sym e)) (ap (λ (t : Table Kind). at t n) same ∙ next_no_object r.stands r.sound) (subst (λ (t : Table Kind). size t < MOST_OBJECTS) (sym same) (room_there r.stands few))
 
 pub mktype_agrees : (rd rs : ℕ) (name : Name) → Agrees (asks.MkType rd rs name)
 mktype_agrees rd rs name s y f u x r =

@@ -4,6 +4,7 @@ use Rattle.std.specs.Prelude.{slice_get}
 use Rattle.std.specs.Option.{option_map, option_or, option_and_then}
 use Rattle.std.proofs.lemmas.Option.{same_Some, none-some}
 use Rattle.std.proofs.lemmas.Bool.{false≢true, eq-eqb}
+use Rattle.psos_limits.specs.declared.TheConstants.{MOST_WORDS}
 use Rattle.psos_caps.specs.Capability.{Capability}
 use Rattle.psos_caps.specs.declared.rights.Rights.{Rights}
 use Rattle.psos_table.specs.Table.{Table, at}
@@ -105,7 +106,7 @@ pub record IsWithin (f : Flat) (v : View) : Type 0 where
   pub segment : Segment
   pub live : at f.segments v.seg ≡ Some segment
   pub fits : v.base + v.len ≤ length segment.words
-  pub few : length segment.words ≤ 512
+  pub few : length segment.words ≤ MOST_WORDS
 
 module _ {s : Script} {f : Flat} (sound : IsSound s f) where
   window_within : (w : WinRow) (t : Segment) → at f.segments w.seg.0 ≡ Some t → w.base + w.len ≤ length t.words

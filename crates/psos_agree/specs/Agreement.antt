@@ -1,5 +1,6 @@
 -- Plans and answers, where the levels stand for a flat state. States docs/promises.md, "Stands for".
 use Rattle.std.specs.Prelude.{◌≡◌, ◌+◌, ◌≤◌, ◌^◌, ℕ, length, slice_get, Some}
+use Rattle.psos_limits.specs.declared.TheConstants.{MOST_CODES, MOST_PATH, MOST_CALLS}
 use Rattle.psos_calls.specs.declared.request.Request.{Request}
 use Rattle.psos_calls.specs.declared.reply.Reply.{Reply}
 use Rattle.psos_calls.specs.declared.reply.Reply.TheVariants.{No}
@@ -28,7 +29,7 @@ pub record Ready (s : Script) (y : System) (f : Flat) (u : ℕ) (x : User) (requ
   pub room : f.next + 3 ≤ 2 ^ 64
   pub here : slice_get f.users u ≡ Some x
   pub asks : next_request s x ≡ Some request
-  pub in_range : InRange 64 request
+  pub in_range : InRange MOST_CODES request
 
 -- a refusal leaves the levels as they were
 abbrev pub KeepsIfNo : Reply → Levels → Levels → Type 0
@@ -69,7 +70,7 @@ BootStands = (s : Script) → IsWellFormed s → StandsFor (boot_system s) (boot
 
 -- the plan of each request makes at most 44 calls, from any levels, where the name space has at most 4 directories
 abbrev pub PlansAreShort : Type 0
-PlansAreShort = (x : User) (l : Levels) (request : Request) → length x.path ≤ 4 → length (run_plan (plan_of x request) l).calls ≤ 44
+PlansAreShort = (x : User) (l : Levels) (request : Request) → length x.path ≤ MOST_PATH → length (run_plan (plan_of x request) l).calls ≤ MOST_CALLS
 
 -- ---- directories in words
 

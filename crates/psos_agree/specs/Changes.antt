@@ -1,5 +1,6 @@
 -- Changes of the levels, as level calls make them. States docs/levels.md, "Calls".
 use Rattle.std.specs.Prelude.{◌≡◌, ℕ, ◌+◌, ◌*◌, ◌/◌, ◌%◌, List, None, Some, slice_set}
+use Rattle.psos_limits.specs.declared.TheConstants.{MOST_WORDS}
 use Rattle.psos_caps.specs.Capability.{full}
 use Rattle.psos_caps.specs.declared.rights.Rights.{Rights}
 use Rattle.psos_table.specs.Table.{at, put, without, kept}
@@ -18,7 +19,7 @@ use Rattle.psos_model.specs.Replay.{System}
 -- the levels with a segment made in the least free slot
 abbrev pub made_segment : System → ℕ → ℕ → Rights → Levels
 made_segment y u len guard = record y.levels {
-  pages = slice_set y.levels.pages (first_free y.levels.pages) (Some (zeros 512));
+  pages = slice_set y.levels.pages (first_free y.levels.pages) (Some (zeros MOST_WORDS));
   segs = record y.levels.segs { segments = put y.levels.segs.segments u (record { slot = first_free y.levels.pages; len = len; guard = guard }) };
 }
 
@@ -41,7 +42,7 @@ gone_object y u rep = record (gone_segment y rep) { types = record y.levels.type
 
 -- the levels with a directory, and its representation of 512 words
 abbrev pub made_directory : System → ℕ → ℕ → Rights → Levels
-made_directory y u rep guard = record (made_segment y rep 512 guard) {
+made_directory y u rep guard = record (made_segment y rep MOST_WORDS guard) {
   types = record y.levels.types { objects = put y.levels.types.objects u (record { of = None; rep = full rep }) };
   dirs = put y.levels.dirs u guard;
 }

@@ -1,5 +1,6 @@
 -- Changes under which the levels go on to stand for the flat state. States docs/promises.md, "Stands for".
 use Rattle.std.specs.Prelude.{◌≡◌, ◌<◌, ◌≤◌, ℕ, List, length, None, Some}
+use Rattle.psos_limits.specs.declared.TheConstants.{MOST_WORDS, MOST_OBJECTS}
 use Rattle.psos_caps.specs.declared.rights.Rights.{Rights}
 use Rattle.psos_table.specs.Table.{at, size, edit}
 use Rattle.psos_text.specs.declared.name.Name.{Name}
@@ -17,13 +18,13 @@ use Rattle.psos_agree.specs.Changes.{made_segment, gone_segment, made_object, go
 
 -- where one more user object fits, a slot is free
 abbrev pub SlotsAreLeft : Type 0
-SlotsAreLeft = (s : Script) (y : System) (f : Flat) → StandsFor y f → IsSound s f → size f.life < 512 → length s.users ≤ 8
+SlotsAreLeft = (s : Script) (y : System) (f : Flat) → StandsFor y f → IsSound s f → size f.life < MOST_OBJECTS → length s.users ≤ 8
     → first_free y.levels.pages < length y.levels.pages
 
 -- a segment of data 0 is made, on an identifier that is new at level 8
 abbrev pub SegmentsAreMade : Type 0
 SegmentsAreMade = (y : System) (f : Flat) (u len : ℕ) (guard : Rights) → StandsFor y f
-    → at y.levels.segs.segments u ≡ None → first_free y.levels.pages < length y.levels.pages → len ≤ 512
+    → at y.levels.segs.segments u ≡ None → first_free y.levels.pages < length y.levels.pages → len ≤ MOST_WORDS
     → StandsFor (record y { levels = made_segment y u len guard }) (changed f (MakeSegment u len guard))
 
 -- a live segment goes, and the windows over it
@@ -34,7 +35,7 @@ SegmentsGo = (s : Script) (y : System) (f : Flat) (u : ℕ) (t : Segment) → St
 -- an object is made with its representation, and goes with it
 abbrev pub ObjectsAreMade : Type 0
 ObjectsAreMade = (y : System) (f : Flat) (u : ℕ) (o : Object) (len : ℕ) → StandsFor y f
-    → at y.levels.segs.segments o.rep ≡ None → first_free y.levels.pages < length y.levels.pages → len ≤ 512
+    → at y.levels.segs.segments o.rep ≡ None → first_free y.levels.pages < length y.levels.pages → len ≤ MOST_WORDS
     → StandsFor (record y { levels = made_object y u o len }) (changed f (MakeObject u o len))
 
 abbrev pub ObjectsGo : Type 0

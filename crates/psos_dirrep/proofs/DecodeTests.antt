@@ -8,6 +8,7 @@ use Rattle.std.proofs.lemmas.Bool.{true≢false}
 use Rattle.std.proofs.lemmas.Bool.Decides.{nat_tests}
 use Rattle.std.proofs.lemmas.List.{length-replicate, drop-replicate}
 use Rattle.std.proofs.lemmas.Option.{same_Some, none-some}
+use Rattle.psos_limits.specs.declared.TheConstants.{MOST_WORDS, MOST_ENTRIES}
 use Rattle.psos_words.specs.declared.word.Word.{Word}
 use Rattle.psos_words.specs.declared.word.Word.TheVariants.{Data}
 use Rattle.psos_words.specs.Words.{zeros, word_at}
@@ -102,13 +103,13 @@ one-never a b c d slot e =
     by true = refl
     by false = refl
 
-last-on : (pages : List (List Word)) (xs : List Slot) → ArePages pages → length pages ≡ 8 → slots_of (words_of pages) ≡ Some xs → are_never (drop 127 xs) ≡ is_never (word_at (words_of pages) 508)
+last-on : (pages : List (List Word)) (xs : List Slot) → ArePages pages → length pages ≡ 8 → slots_of (words_of pages) ≡ Some xs → are_never (drop MOST_ENTRIES xs) ≡ is_never (word_at (words_of pages) 508)
 last-on pages xs are eight e =
-    let from : FromSlot pages 127 = record { are = are; few = omega arith; within = omega arith } in
+    let from : FromSlot pages MOST_ENTRIES = record { are = are; few = omega arith; within = omega arith } in
     let past : FromSlot pages 128 = record { are = are; few = omega arith; within = omega arith } in
-    let rest = slots-drop 127 (words_of pages) xs e in
-    let in_rest = slots-are (drop (4 * 127) (words_of pages)) (drop 127 xs) rest in
-    let s = at-slot pages 127 from (omega arith) (rest ∙ ap (λ (l : List Slot). Some l) (sym in_rest)) in
+    let rest = slots-drop MOST_ENTRIES (words_of pages) xs e in
+    let in_rest = slots-are (drop (4 * MOST_ENTRIES) (words_of pages)) (drop MOST_ENTRIES xs) rest in
+    let s = at-slot pages MOST_ENTRIES from (omega arith) (rest ∙ ap (λ (l : List Slot). Some l) (sym in_rest)) in
     let nothing : slots_in (drop (4 * 128) (words_of pages)) ≡ [] = ap slots_in (at-end pages 128 past (omega arith)) ∙ nothing-in in
     ap are_never (sym in_rest ∙ s.is ∙ ap (λ (l : List Slot). s.slot ∷ l) nothing) ∙ one-never (At pages 508) (At pages 509) (At pages 510) (At pages 511) s.slot s.here
 
@@ -136,7 +137,7 @@ filled-up pages xs are few e =
     let is : h.front ≡ xs = same_Some h.front xs (sym h.first ∙ e) in
     let count : length xs ≡ 16 * length pages = ap length (sym is) ∙ h.long in
     let more = 128 - 16 * length pages in
-    let left : 512 - length (words_of pages) ≡ 4 * more = omega arith in
+    let left : MOST_WORDS - length (words_of pages) ≡ 4 * more = omega arith in
     record {
       more = more;
       long = omega arith;
@@ -144,24 +145,24 @@ filled-up pages xs are few e =
       decoded = ap (λ (n : ℕ). option_and_then entry_slots (slots_of (words_of pages ++ zeros n))) left ∙ ap (option_and_then entry_slots) (slots-append (words_of pages) (zeros (4 * more)) xs (replicate more Never) e (zeros-slots more));
     }
 
-last-is : (pages : List (List Word)) (xs : List Slot) → ArePages pages → length pages ≤ 8 → slots_of (words_of pages) ≡ Some xs → (f : Filled pages xs) → are_never (drop 127 (xs ++ replicate f.more Never)) ≡ ends_never pages
+last-is : (pages : List (List Word)) (xs : List Slot) → ArePages pages → length pages ≤ 8 → slots_of (words_of pages) ≡ Some xs → (f : Filled pages xs) → are_never (drop MOST_ENTRIES (xs ++ replicate f.more Never)) ≡ ends_never pages
 last-is pages xs are few e f = by (nat_lt (length pages) 8) refl
   where
-    by : (t : Bool) → nat_lt (length pages) 8 ≡ t → are_never (drop 127 (xs ++ replicate f.more Never)) ≡ cond t true (is_never (word_at (words_of pages) 508))
+    by : (t : Bool) → nat_lt (length pages) 8 ≡ t → are_never (drop MOST_ENTRIES (xs ++ replicate f.more Never)) ≡ cond t true (is_never (word_at (words_of pages) 508))
     by true is =
         let less : length pages < 8 = grind (arith, nat_tests) in
         let count = f.count in
-        let at : 127 ≡ length xs + (127 - length xs) = omega arith in
+        let at : MOST_ENTRIES ≡ length xs + (MOST_ENTRIES - length xs) = omega arith in
         ap (λ (n : ℕ). are_never (drop n (xs ++ replicate f.more Never))) at
-        ∙ ap are_never (drop-append-add xs (replicate f.more Never) (127 - length xs))
-        ∙ ap are_never (drop-replicate (127 - length xs) f.more Never)
-        ∙ never-nevers (f.more - (127 - length xs))
+        ∙ ap are_never (drop-append-add xs (replicate f.more Never) (MOST_ENTRIES - length xs))
+        ∙ ap are_never (drop-replicate (MOST_ENTRIES - length xs) f.more Never)
+        ∙ never-nevers (f.more - (MOST_ENTRIES - length xs))
     by false is =
         let all : 8 ≤ length pages = grind (arith, nat_tests) in
         let count = f.count in
         let long = f.long in
         let none : f.more ≡ 0 = omega arith in
-        ap (λ (n : ℕ). are_never (drop 127 (xs ++ replicate n Never))) none ∙ ap (λ (l : List Slot). are_never (drop 127 l)) (append-nil xs) ∙ last-on pages xs are (omega arith) e
+        ap (λ (n : ℕ). are_never (drop MOST_ENTRIES (xs ++ replicate n Never))) none ∙ ap (λ (l : List Slot). are_never (drop MOST_ENTRIES l)) (append-nil xs) ∙ last-on pages xs are (omega arith) e
 
 pub decode-some : (pages : List (List Word)) (xs : List Slot) → ArePages pages → length pages ≤ 8 → slots_of (words_of pages) ≡ Some xs → is_some (decode (words_of pages)) ≡ (true && ends_never pages && are_in_order xs && are_apart xs)
 decode-some pages xs are few e =
@@ -170,20 +171,20 @@ decode-some pages xs are few e =
     let long : length all ≡ 128 = length-append xs (replicate f.more Never) ∙ ap (λ (n : ℕ). length xs + n) (length-replicate f.more Never) ∙ f.long in
     let count : eqb (length all) 128 ≡ true = grind (arith, nat_tests, long) in
     ap is_some f.decoded
-    ∙ is_some-cond (eqb (length all) 128 && are_never (drop 127 all) && are_in_order all && are_apart all) (take 127 all)
-    ∙ ap (λ (b : Bool). b && are_never (drop 127 all) && are_in_order all && are_apart all) count
+    ∙ is_some-cond (eqb (length all) 128 && are_never (drop MOST_ENTRIES all) && are_in_order all && are_apart all) (take MOST_ENTRIES all)
+    ∙ ap (λ (b : Bool). b && are_never (drop MOST_ENTRIES all) && are_in_order all && are_apart all) count
     ∙ ap (λ (b : Bool). true && b && are_in_order all && are_apart all) (last-is pages xs are few e f)
     ∙ ap (λ (b : Bool). true && ends_never pages && b && are_apart all) (order-behind xs f.more)
     ∙ ap (λ (b : Bool). true && ends_never pages && are_in_order xs && b) (apart-behind xs f.more)
 
 pub decode-none : (pages : List (List Word)) → ArePages pages → is_some (slots_of (words_of pages)) ≡ false → is_some (decode (words_of pages)) ≡ false
 unfolding decode
-decode-none pages are none = by (slots_of (words_of pages ++ zeros (512 - length (words_of pages)))) refl
+decode-none pages are none = by (slots_of (words_of pages ++ zeros (MOST_WORDS - length (words_of pages)))) refl
   where
-    by : (o : Option (List Slot)) → slots_of (words_of pages ++ zeros (512 - length (words_of pages))) ≡ o → is_some (option_and_then entry_slots o) ≡ false
+    by : (o : Option (List Slot)) → slots_of (words_of pages ++ zeros (MOST_WORDS - length (words_of pages))) ≡ o → is_some (option_and_then entry_slots o) ≡ false
     by None e = refl
     by (Some all) e =
-        let h = halves (16 * length pages) (words_of pages) (zeros (512 - length (words_of pages))) all (words-long pages are) e in
+        let h = halves (16 * length pages) (words_of pages) (zeros (MOST_WORDS - length (words_of pages))) all (words-long pages are) e in
         absurd (true≢false (sym (ap is_some h.first) ∙ none))
 
 -- ---- what the tests tell

@@ -4,6 +4,7 @@ use Rattle.std.specs.Option.{option_and_then}
 use Rattle.std.proofs.lemmas.Bool.{true≢false}
 use Rattle.std.proofs.lemmas.Bool.Decides.{nat_tests}
 use Rattle.std.proofs.lemmas.Option.{same_Some, none-some}
+use Rattle.psos_limits.specs.declared.TheConstants.{MOST_WORDS, MOST_ENTRIES}
 use Rattle.psos_caps.specs.Capability.{Capability}
 use Rattle.psos_text.specs.declared.name.Name.{Name}
 use Rattle.psos_text.specs.Name.{IsName}
@@ -77,15 +78,15 @@ pub record IsDirectory (words : List Word) (slots : List Slot) : Type 0 where
   pub all : List Slot
   pub are : slots_of words ≡ Some all
   pub count : length all ≡ 128
-  pub last : are_never (drop 127 all) ≡ true
+  pub last : are_never (drop MOST_ENTRIES all) ≡ true
   pub in_order : are_in_order all ≡ true
   pub apart : are_apart all ≡ true
-  pub is : slots ≡ take 127 all
+  pub is : slots ≡ take MOST_ENTRIES all
 
 -- words filled up to 512
-pub decode-whole : (words : List Word) → length words ≡ 512 → decode words ≡ option_and_then entry_slots (slots_of words)
+pub decode-whole : (words : List Word) → length words ≡ MOST_WORDS → decode words ≡ option_and_then entry_slots (slots_of words)
 unfolding decode
-decode-whole words long = ap (λ (n : ℕ). option_and_then entry_slots (slots_of (words ++ zeros (512 - n)))) long ∙ ap (λ (l : List Word). option_and_then entry_slots (slots_of l)) (append-nil words)
+decode-whole words long = ap (λ (n : ℕ). option_and_then entry_slots (slots_of (words ++ zeros (MOST_WORDS - n)))) long ∙ ap (λ (l : List Word). option_and_then entry_slots (slots_of l)) (append-nil words)
 
 all_four : (a b c d : Bool) → (a && b && c && d) ≡ true → (a ≡ true) × (b ≡ true) × (c ≡ true) × (d ≡ true)
 all_four true true true true e = (refl, refl, refl, refl)
@@ -98,19 +99,19 @@ pub some_if : {X : Type 0} (b : Bool) (x y : X) → cond b (Some x) None ≡ Som
 some_if true x y e = (refl, same_Some x y e)
 some_if false x y e = absurd (none-some y e)
 
-pub decoded : (words : List Word) (slots : List Slot) → length words ≡ 512 → decode words ≡ Some slots → IsDirectory words slots
+pub decoded : (words : List Word) (slots : List Slot) → length words ≡ MOST_WORDS → decode words ≡ Some slots → IsDirectory words slots
 decoded words slots long e = by (slots_of words) refl (sym (decode-whole words long) ∙ e)
   where
     by : (o : Option (List Slot)) → slots_of words ≡ o → option_and_then entry_slots o ≡ Some slots → IsDirectory words slots
     by None i h = absurd (none-some slots h)
     by (Some all) i h =
-        let found = some_if (eqb (length all) 128 && are_never (drop 127 all) && are_in_order all && are_apart all) (take 127 all) slots h in
-        let tests = all_four (eqb (length all) 128) (are_never (drop 127 all)) (are_in_order all) (are_apart all) found.0 in
+        let found = some_if (eqb (length all) 128 && are_never (drop MOST_ENTRIES all) && are_in_order all && are_apart all) (take MOST_ENTRIES all) slots h in
+        let tests = all_four (eqb (length all) 128) (are_never (drop MOST_ENTRIES all)) (are_in_order all) (are_apart all) found.0 in
         let long = tests.0 in
         record { all = all; are = i; count = grind (arith, nat_tests); last = tests.1; in_order = tests.2; apart = tests.3; is = sym found.1 }
 
-pub decodes : (words : List Word) (slots : List Slot) → length words ≡ 512 → IsDirectory words slots → decode words ≡ Some slots
+pub decodes : (words : List Word) (slots : List Slot) → length words ≡ MOST_WORDS → IsDirectory words slots → decode words ≡ Some slots
 decodes words slots long d =
     let count : eqb (length d.all) 128 ≡ true = grind (arith, nat_tests, d.count) in
-    let tests : (eqb (length d.all) 128 && are_never (drop 127 d.all) && are_in_order d.all && are_apart d.all) ≡ true = rw (count, d.last, d.in_order, d.apart) refl in
-    decode-whole words long ∙ ap (option_and_then entry_slots) d.are ∙ ap (λ (b : Bool). cond b (Some (take 127 d.all)) None) tests ∙ ap (λ (l : List Slot). Some l) (sym d.is)
+    let tests : (eqb (length d.all) 128 && are_never (drop MOST_ENTRIES d.all) && are_in_order d.all && are_apart d.all) ≡ true = rw (count, d.last, d.in_order, d.apart) refl in
+    decode-whole words long ∙ ap (option_and_then entry_slots) d.are ∙ ap (λ (b : Bool). cond b (Some (take MOST_ENTRIES d.all)) None) tests ∙ ap (λ (l : List Slot). Some l) (sym d.is)

@@ -5,6 +5,7 @@ use Rattle.std.proofs.lemmas.List.{drop-set-lt}
 use Rattle.std.proofs.lemmas.Option.{none-some, slice_get_within}
 use Rattle.std.specs.List.{list_any}
 use Rattle.std.proofs.lemmas.Bool.{and_parts}
+use Rattle.psos_limits.specs.declared.TheConstants.{MOST_ENTRIES}
 use Rattle.psos_text.specs.declared.name.Name.{Name}
 use Rattle.psos_words.specs.declared.word.Word.{Word}
 use Rattle.psos_words.specs.declared.word.Word.TheVariants.{Data, Cap}
@@ -21,10 +22,10 @@ other_name : (a b : Name) → b ≢ a → same_name a b ≡ false
 other_name a b differ = bytes_differ a.bytes b.bytes (λ e. differ (ap (λ (bytes : List ℕ). (let n : Name = record { bytes = bytes } in n)) (sym e)))
 
 -- the entry slots of a directory are its slots but the last
-slots-long : (words : List Word) (slots : List Slot) (d : IsDirectory words slots) → length slots ≡ 127
+slots-long : (words : List Word) (slots : List Slot) (d : IsDirectory words slots) → length slots ≡ MOST_ENTRIES
 slots-long words slots d =
     let count = d.count in
-    ap length d.is ∙ omega (arith, length-take 127 d.all)
+    ap length d.is ∙ omega (arith, length-take MOST_ENTRIES d.all)
 
 -- what is free among the first slots is free among all
 free-take : (j n m : ℕ) (all : List Slot) → free_from j (take n all) ≡ Some m → free_from j all ≡ Some m
@@ -66,7 +67,7 @@ apart-take (suc n) (Used x ∷ rest) e =
     ap (λ (b : Bool). not b && are_apart (take n rest)) (any-take (has_name x.name) n rest (not-true (list_any (has_name x.name) rest) parts.0)) ∙ apart-take n rest parts.1
 
 -- a slot of a directory is written
-written-is : (words : List Word) (slots : List Slot) (k : ℕ) (a b c d : Word) (slot : Slot) (w : IsDirectory words slots) → k < 127 → slot_of a b c d ≡ Some slot
+written-is : (words : List Word) (slots : List Slot) (k : ℕ) (a b c d : Word) (slot : Slot) (w : IsDirectory words slots) → k < MOST_ENTRIES → slot_of a b c d ≡ Some slot
     → are_in_order (set w.all k slot) ≡ true → are_apart (set w.all k slot) ≡ true → IsDirectory (with_words words (4 * k) (a ∷ b ∷ c ∷ d ∷ [])) (set slots k slot)
 written-is words slots k a b c d slot w within is order apart =
     let count = w.count in
@@ -74,10 +75,10 @@ written-is words slots k a b c d slot w within is order apart =
       all = set w.all k slot;
       are = slots-written words k w.all a b c d slot w.are (omega arith) is;
       count = length-set w.all k slot ∙ count;
-      last = ap are_never (drop-set-lt 127 w.all k slot within) ∙ w.last;
+      last = ap are_never (drop-set-lt MOST_ENTRIES w.all k slot within) ∙ w.last;
       in_order = order;
       apart = apart;
-      is = ap (λ (l : List Slot). set l k slot) w.is ∙ sym (take-set-lt 127 w.all k slot within);
+      is = ap (λ (l : List Slot). set l k slot) w.is ∙ sym (take-set-lt MOST_ENTRIES w.all k slot within);
     }
 
 pub entry-added : (words : List Word) (slots : List Slot) (k : ℕ) (e : Entry) → HasRoom words slots k e → HasAdded (with_words words (4 * k) (entry_words e.name e.cap e.kept)) slots k e
@@ -87,9 +88,9 @@ entry-added words slots k e h =
     let slot : free_from 0 slots ≡ Some (0 + k) = h.slot ∙ ap (λ (n : ℕ). Some n) at in
     let free = free-at 0 k slots slot in
     let long = slots-long words slots w in
-    let within : k < 127 = omega (arith, free-within free) in
-    let free_all = free-at 0 k w.all (free-take 0 127 (0 + k) w.all (ap (free_from 0) (sym w.is) ∙ slot)) in
-    let new_all : find_from 0 w.all e.name ≡ None = sym (find-take 0 127 w.all e.name w.last) ∙ ap (λ (l : List Slot). find_from 0 l e.name) (sym w.is) ∙ h.new in
+    let within : k < MOST_ENTRIES = omega (arith, free-within free) in
+    let free_all = free-at 0 k w.all (free-take 0 MOST_ENTRIES (0 + k) w.all (ap (free_from 0) (sym w.is) ∙ slot)) in
+    let new_all : find_from 0 w.all e.name ≡ None = sym (find-take 0 MOST_ENTRIES w.all e.name w.last) ∙ ap (λ (l : List Slot). find_from 0 l e.name) (sym w.is) ∙ h.new in
     let after = with_words words (4 * k) (entry_words e.name e.cap e.kept) in
     let after_long = written-length words (4 * k) (entry_words e.name e.cap e.kept) ∙ h.whole.long in
     let dir = written-is words slots k (Data (mark_of e.kept)) (Data (name_high e.name)) (Data (name_low e.name)) (Cap e.cap) (Used e) w within (entry-slot e.name e.cap e.kept h.named) (order-added e free_all w.in_order) (apart-added e free_all new_all w.apart) in
@@ -104,13 +105,13 @@ entry-removed words slots k e h =
     let w = decoded words slots h.whole.long h.whole.decoded in
     let long = slots-long words slots w in
     let in_slots = slice_get_within slots k (Used e) h.there in
-    let within : k < 127 = omega (arith, in_slots) in
-    let there_all = get-take 127 k w.all (Used e) (ap (λ (l : List Slot). slice_get l k) (sym w.is) ∙ h.there) in
+    let within : k < MOST_ENTRIES = omega (arith, in_slots) in
+    let there_all = get-take MOST_ENTRIES k w.all (Used e) (ap (λ (l : List Slot). slice_get l k) (sym w.is) ∙ h.there) in
     let after = with_words words (4 * k) gone_words in
     let after_long = written-length words (4 * k) gone_words ∙ h.whole.long in
     let dir = written-is words slots k (Data 3) (Data 0) (Data 0) (Data 0) Gone w within refl (order-removed w.all k e there_all w.in_order) (apart-removed w.all k w.apart) in
     record {
       whole = record { long = after_long; decoded = decodes after (set slots k Gone) after_long dir };
-      gone = gone-removed 0 slots k e h.there (ap are_apart w.is ∙ apart-take 127 w.all w.apart);
+      gone = gone-removed 0 slots k e h.there (ap are_apart w.is ∙ apart-take MOST_ENTRIES w.all w.apart);
       others = λ name differ. others-removed 0 slots k e name h.there (other_name e.name name differ);
     }

@@ -6,6 +6,7 @@ use Rattle.std.proofs.lemmas.Bool.{true≢false}
 use Rattle.std.proofs.lemmas.Bool.Decides.{nat_tests}
 use Rattle.std.proofs.lemmas.List.{length-replicate}
 use Rattle.std.proofs.lemmas.Option.{same_Some, none-some}
+use Rattle.psos_limits.specs.declared.TheConstants.{MOST_WORDS, MOST_ENTRIES}
 use Rattle.psos_text.specs.declared.name.Name.{Name}
 use Rattle.psos_words.specs.declared.word.Word.{Word}
 use Rattle.psos_words.specs.declared.word.Word.TheVariants.{Data, Cap}
@@ -50,8 +51,8 @@ front-whole front rest n slots whole long has =
     let h = halves n front rest d.all long d.are in
     let nothing = never-rest front h.front h.back h.first has (ap are_in_order (sym h.is) ∙ d.in_order) in
     let all = whole.long in
-    let left : 512 - length front ≡ length rest = omega (arith, length-append front rest, all) in
-    let filled : zeros (512 - length front) ≡ rest = ap zeros left ∙ sym (never-zeros rest h.back h.second nothing) in
+    let left : MOST_WORDS - length front ≡ length rest = omega (arith, length-append front rest, all) in
+    let filled : zeros (MOST_WORDS - length front) ≡ rest = ap zeros left ∙ sym (never-zeros rest h.back h.second nothing) in
     ap (λ (l : List Word). option_and_then entry_slots (slots_of (front ++ l))) filled ∙ sym (decode-whole (front ++ rest) whole.long) ∙ whole.decoded
 
 -- ---- the slots that were read, and those behind them
@@ -64,24 +65,24 @@ pub record Fronts (words : List Word) (n : ℕ) (slots : List Slot) : Type 0 whe
   pub long : length front ≡ n
   pub nothing : are_never back ≡ true
   pub both : all ≡ front ++ back
-  pub last : are_never (drop 127 all) ≡ true
+  pub last : are_never (drop MOST_ENTRIES all) ≡ true
   pub in_order : are_in_order all ≡ true
-  pub is : slots ≡ take 127 all
+  pub is : slots ≡ take MOST_ENTRIES all
 
-pub fronts : (words : List Word) (n : ℕ) (slots : List Slot) → length words ≡ 4 * n → length words ≤ 512 → decode words ≡ Some slots → Fronts words n slots
+pub fronts : (words : List Word) (n : ℕ) (slots : List Slot) → length words ≡ 4 * n → length words ≤ MOST_WORDS → decode words ≡ Some slots → Fronts words n slots
 unfolding decode
 fronts words n slots long few e =
-    let filled = words ++ zeros (512 - length words) in
-    let whole : length filled ≡ 512 = length-append words (zeros (512 - length words)) ∙ omega (arith, length-replicate {A = Word} (512 - length words) (Data 0)) in
+    let filled = words ++ zeros (MOST_WORDS - length words) in
+    let whole : length filled ≡ MOST_WORDS = length-append words (zeros (MOST_WORDS - length words)) ∙ omega (arith, length-replicate {A = Word} (MOST_WORDS - length words) (Data 0)) in
     let d = decoded filled slots whole (decode-whole filled whole ∙ e) in
-    let h = halves n words (zeros (512 - length words)) d.all long d.are in
+    let h = halves n words (zeros (MOST_WORDS - length words)) d.all long d.are in
     record {
       all = d.all;
       front = h.front;
       back = h.back;
       are = h.first;
       long = h.long;
-      nothing = zeros-never (512 - length words) h.back h.second;
+      nothing = zeros-never (MOST_WORDS - length words) h.back h.second;
       both = h.is;
       last = d.last;
       in_order = d.in_order;
@@ -97,7 +98,7 @@ or_none (Some x) = refl
 fronts-find : (words : List Word) (n : ℕ) (slots : List Slot) (name : Name) (f : Fronts words n slots) → find slots name ≡ find f.front name
 fronts-find words n slots name f =
     ap (λ (l : List Slot). find_from 0 l name) f.is
-    ∙ find-take 0 127 f.all name f.last
+    ∙ find-take 0 MOST_ENTRIES f.all name f.last
     ∙ ap (λ (l : List Slot). find_from 0 l name) f.both
     ∙ find-append 0 f.front f.back name
     ∙ ap (or_else (find_from 0 f.front name)) (never-find (0 + length f.front) f.back name f.nothing)
@@ -203,16 +204,16 @@ free-high (suc n) (never j rest) high = absurd (omega arith)
 free-high (suc n) (gone j rest) high = absurd (omega arith)
 free-high (suc n) (used j k x rest h) high = free-high n h (omega arith)
 
-pub free-taken : (m : ℕ) (all : List Slot) → FreeAt 0 m all → free_from 0 (take 127 all) ≡ entry_slot (Some m)
-free-taken m all h = by (nat_lt m 127) refl
+pub free-taken : (m : ℕ) (all : List Slot) → FreeAt 0 m all → free_from 0 (take MOST_ENTRIES all) ≡ entry_slot (Some m)
+free-taken m all h = by (nat_lt m MOST_ENTRIES) refl
   where
-    by : (t : Bool) → nat_lt m 127 ≡ t → free_from 0 (take 127 all) ≡ cond t (Some m) None
+    by : (t : Bool) → nat_lt m MOST_ENTRIES ≡ t → free_from 0 (take MOST_ENTRIES all) ≡ cond t (Some m) None
     by true e =
-        let low : m < 127 = grind (arith, nat_tests) in
-        free-low 127 h low ∙ ap (λ (i : ℕ). Some i) {x = 0 + m} {y = m} (omega arith)
+        let low : m < MOST_ENTRIES = grind (arith, nat_tests) in
+        free-low MOST_ENTRIES h low ∙ ap (λ (i : ℕ). Some i) {x = 0 + m} {y = m} (omega arith)
     by false e =
-        let high : 127 ≤ m = grind (arith, nat_tests) in
-        free-high 127 h high
+        let high : MOST_ENTRIES ≤ m = grind (arith, nat_tests) in
+        free-high MOST_ENTRIES h high
 
 pub pages-places : (pages : List (List Word)) (slots : List Slot) → ArePages pages → length pages ≤ 8 → decode (words_of pages) ≡ Some slots → has_never (words_of pages) ≡ true → slot_for slots ≡ entry_slot (slot_on 0 pages)
 pages-places pages slots are few e has =

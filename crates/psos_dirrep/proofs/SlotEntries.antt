@@ -2,6 +2,7 @@
 use Rattle.std.proofs.Common.{◌≡◌, ℕ, ◌+◌, ◌*◌, ◌-◌, ◌<◌, ◌≤◌, Bool, true, false, cond, List, ◌++◌, length, drop, replicate, get_or, Some, None, refl, sym, ap, ◌∙◌, arith}
 use Rattle.std.proofs.Math.ListN.{get_or-append}
 use Rattle.std.proofs.lemmas.List.{get_or-take, get_or-drop, get_or-append_right, get_or-replicate}
+use Rattle.psos_limits.specs.declared.TheConstants.{MOST_ENTRIES}
 use Rattle.psos_caps.specs.Capability.{Capability}
 use Rattle.psos_words.specs.declared.word.Word.{Word}
 use Rattle.psos_words.specs.declared.word.Word.TheVariants.{Data, Cap}
@@ -26,11 +27,11 @@ read-entry a b c d slot e =
     let P : Word → Word → Word → Word → Slot → Type 0 = λ a b c d slot. read_entry a b c d ≡ entry_in slot in
     by_slot P refl refl (λ h l cap kept filled. entry_read h l cap kept filled) a b c d slot e
 
-slot-at : (pages : List (List Word)) (k : ℕ) (a : AllSlots pages) → k < 127 → get_or (entry_list (words_of pages)) k Never ≡ get_or (a.xs ++ replicate a.filled.more Never) k Never
-slot-at pages k a low = ap (λ (l : List Slot). get_or l k Never) a.is ∙ get_or-take 127 (a.xs ++ replicate a.filled.more Never) k Never low
+slot-at : (pages : List (List Word)) (k : ℕ) (a : AllSlots pages) → k < MOST_ENTRIES → get_or (entry_list (words_of pages)) k Never ≡ get_or (a.xs ++ replicate a.filled.more Never) k Never
+slot-at pages k a low = ap (λ (l : List Slot). get_or l k Never) a.is ∙ get_or-take MOST_ENTRIES (a.xs ++ replicate a.filled.more Never) k Never low
 
 -- behind the pages no slot was ever used
-pub get-past : (pages : List (List Word)) (k : ℕ) → IsEntryList pages → 16 * length pages ≤ k → k < 127 → get_or (entry_list (words_of pages)) k Never ≡ Never
+pub get-past : (pages : List (List Word)) (k : ℕ) → IsEntryList pages → 16 * length pages ≤ k → k < MOST_ENTRIES → get_or (entry_list (words_of pages)) k Never ≡ Never
 get-past pages k e past low =
     let a = list-all pages e in
     let count = a.filled.count in
@@ -38,7 +39,7 @@ get-past pages k e past low =
     slot-at pages k a low ∙ get_or-append_right a.xs (replicate a.filled.more Never) (length a.xs) k Never refl (omega arith) ∙ get_or-replicate a.filled.more (k - length a.xs) Never Never (omega arith)
 
 -- on the pages slot k is the one that its words are
-pub get-here : (pages : List (List Word)) (k : ℕ) → IsEntryList pages → k < 16 * length pages → k < 127
+pub get-here : (pages : List (List Word)) (k : ℕ) → IsEntryList pages → k < 16 * length pages → k < MOST_ENTRIES
     → read_entry (At pages (4 * k)) (At pages (4 * k + 1)) (At pages (4 * k + 2)) (At pages (4 * k + 3)) ≡ entry_in (get_or (entry_list (words_of pages)) k Never)
 get-here pages k e within low =
     let a = list-all pages e in

@@ -4,6 +4,7 @@ use Rattle.std.specs.Prelude.{option_map, nat_lt, slice_get}
 use Rattle.std.specs.List.{AllByRecursion}
 use Rattle.std.proofs.lemmas.Bool.Decides.{nat_tests}
 use Rattle.std.proofs.lemmas.Option.{same_Some, none-some}
+use Rattle.psos_limits.specs.declared.TheConstants.{MOST_ENTRIES}
 use Rattle.psos_text.specs.declared.name.Name.{Name}
 use Rattle.psos_words.specs.declared.word.Word.{Word}
 use Rattle.psos_words.specs.Directory.{Slot, Never, Gone, Used, Found as SlotFound, slots_of, are_never, are_in_order, are_apart, find, slot_for, free_from}
@@ -52,14 +53,14 @@ pub record AllSlots (pages : List (List Word)) : Type 0 where
   pub xs : List Slot
   pub are : slots_of (words_of pages) ≡ Some xs
   pub filled : Filled pages xs
-  pub is : entry_list (words_of pages) ≡ take 127 (xs ++ replicate filled.more Never)
+  pub is : entry_list (words_of pages) ≡ take MOST_ENTRIES (xs ++ replicate filled.more Never)
 
 pub list-all : (pages : List (List Word)) → IsEntryList pages → AllSlots pages
 list-all pages e =
     let fr = pages-fronts pages (entry_list (words_of pages)) e.are e.few e.list in
     let f = filled-up pages fr.front e.are e.few fr.are in
     let all = fr.front ++ replicate f.more Never in
-    let found = some_if (eqb (length all) 128 && are_never (drop 127 all) && are_in_order all && are_apart all) (take 127 all) (entry_list (words_of pages)) (sym f.decoded ∙ e.list) in
+    let found = some_if (eqb (length all) 128 && are_never (drop MOST_ENTRIES all) && are_in_order all && are_apart all) (take MOST_ENTRIES all) (entry_list (words_of pages)) (sym f.decoded ∙ e.list) in
     record { xs = fr.front; are = fr.are; filled = f; is = sym found.1 }
 
 behind-is : (pages : List (List Word)) (xs : List Slot) (f : Filled pages xs) → length pages ≤ 8 → free_from (0 + length xs) (replicate f.more Never) ≡ behind pages
@@ -86,6 +87,6 @@ list-slot pages e =
     let place : free_from 0 all ≡ or_else (slot_on 0 pages) (behind pages) = free-append 0 a.xs (replicate a.filled.more Never) ∙ ap (or_else (free_from 0 a.xs)) (behind-is pages a.xs a.filled e.few) ∙ ap (λ (o : Option ℕ). or_else o (behind pages)) (pages-free 0 pages a.xs e.are a.are) in
     ap entry_slot (sym place) ∙ by all (free_from 0 all) refl ∙ ap (free_from 0) (sym a.is)
   where
-    by : (l : List Slot) (o : Option ℕ) → free_from 0 l ≡ o → entry_slot o ≡ free_from 0 (take 127 l)
-    by l None is = sym (free-none 0 127 l is)
+    by : (l : List Slot) (o : Option ℕ) → free_from 0 l ≡ o → entry_slot o ≡ free_from 0 (take MOST_ENTRIES l)
+    by l None is = sym (free-none 0 MOST_ENTRIES l is)
     by l (Some m) is = sym (free-taken m l (free-at 0 m l (is ∙ ap (λ (n : ℕ). Some n) {x = m} {y = 0 + m} (omega arith))))

@@ -1,5 +1,6 @@
 -- What writing one slot does to a directory. States docs/levels.md, "Directories in words".
 use Rattle.std.specs.Prelude.{◌≡◌, ◌≢◌, ℕ, List, length, slice_get, slice_set, Some, None}
+use Rattle.psos_limits.specs.declared.TheConstants.{MOST_WORDS}
 use Rattle.psos_text.specs.declared.name.Name.{Name}
 use Rattle.psos_text.specs.Name.{IsName}
 use Rattle.psos_words.specs.declared.word.Word.{Word}
@@ -7,7 +8,7 @@ use Rattle.psos_words.specs.Directory.{Entry, Slot, Gone, Used, decode, find, sl
 
 -- 512 words are a directory with these entry slots
 pub record IsWhole (words : List Word) (slots : List Slot) : Type 0 where
-  pub long : length words ≡ 512
+  pub long : length words ≡ MOST_WORDS
   pub decoded : decode words ≡ Some slots
 
 -- the least slot that is not used is slot k, and no entry has the name of the new one

@@ -2,6 +2,7 @@
 use Rattle.std.specs.Prelude.{◌≡◌, ℕ, ◌+◌, ◌*◌, List, [], ◌∷◌, length, Option, Some, None, option_map, if◌then◌else◌, nat_lt, IsTrue, Bool, true, false}
 use Rattle.std.specs.List.{flat_map, AllByRecursion}
 use Rattle.std.specs.Option.{unwrap_or}
+use Rattle.psos_limits.specs.declared.TheConstants.{MOST_ENTRIES}
 use Rattle.psos_text.specs.declared.name.Name.{Name}
 use Rattle.psos_words.specs.declared.word.Word.{Word}
 use Rattle.psos_words.specs.Directory.{Slot, Never, Gone, Used, Found, slots_of, are_in_order, find, slot_for}
@@ -45,7 +46,7 @@ slot_on k (page ∷ rest) = or_else (option_map (λ i. k + i) (slot_for (slots_i
 -- the last of 128 slots is never an entry's
 abbrev pub entry_slot : Option ℕ → Option ℕ
 entry_slot None = None
-entry_slot (Some k) = if nat_lt k 127 then Some k else None
+entry_slot (Some k) = if nat_lt k MOST_ENTRIES then Some k else None
 
 -- the slot behind so many pages, where there are fewer than eight
 abbrev pub behind : List (List Word) → Option ℕ

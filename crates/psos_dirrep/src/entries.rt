@@ -1,6 +1,7 @@
 // The entries of a directory.
 ghost use Rattle.std.specs.Prelude.{◌≡◌, ◌+◌, ◌*◌, ◌<◌, ◌≤◌, length, option_map, slice_index_or};
 ghost use Rattle.std.specs.List.{AllByRecursion};
+ghost use Rattle.psos_limits.specs.declared.TheConstants.{MOST_ENTRIES};
 ghost use Rattle.psos_text.specs.Name.{IsName};
 ghost use Rattle.psos_words.specs.Directory.{Never, decode, find, slot_for};
 ghost use Rattle.psos_dirrep.specs.Entries.{as_found, entry_in, read_entry};
@@ -11,6 +12,7 @@ use crate::lists::is_list;
 use crate::names::filled;
 use crate::page::{find_on, free_on};
 use crate::{DirEntry, Found};
+use psos_limits::MOST_ENTRIES;
 use psos_text::Name;
 use psos_words::{Page, Word};
 use std::marker::Model;
@@ -84,7 +86,13 @@ pub fn entry_slot(place: Option<u8>) -> Option<u8>
     ensures { result ≡ entry_slot place }
 {
     match place {
-        Some(k) => { if k < 127 { Some(k) } else { None } }
+        Some(k) => {
+            if usize::from(k) < MOST_ENTRIES {
+                Some(k)
+            } else {
+                None
+            }
+        }
         None => None,
     }
 }
@@ -123,7 +131,7 @@ fn free_from(pages: &[Page], base: u8) -> Option<u8>
 impl<'a> Entries127<'a> {
     /// The entry in slot k. None exactly where that slot is not used.
     pub fn get(&self, k: u8) -> Option<DirEntry>
-        requires { k < 127 }
+        requires { k < MOST_ENTRIES }
         ensures { result ≡ entry_in (slice_index_or self.now k Never) }
     {
         let pages = self.pages;

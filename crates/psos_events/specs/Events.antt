@@ -1,5 +1,6 @@
 -- Laws of events: where they begin, what they commit, that each can happen and goes further, and where they end. States docs/levels.md, "Locks".
 use Rattle.std.specs.Prelude.{◌≡◌, ◌<◌, ◌≤◌, ◌+◌, ◌*◌, ℕ, false, List, length, map, sum_by, slice_get, Option, Some, None, IfSome, IsTrue}
+use Rattle.psos_limits.specs.declared.TheConstants.{TRACE_ROOM}
 use Rattle.psos_calls.specs.declared.lock_id.LockId.{LockId}
 use Rattle.psos_calls.specs.declared.step.Step.{Step}
 use Rattle.psos_calls.specs.Language.Script.{Script, IsWellFormed}
@@ -31,7 +32,7 @@ EventsCommit = (s : Script) (y : System) (f : Flat) (us : List ℕ) → IsCoreSt
 abbrev pub CanHappen : CoreState → ℕ → Option Event → Type 0
 CanHappen c u None = Unit {0}
 CanHappen c u (Some (Take lock)) = Unit {0}
-CanHappen c u (Some (Call call)) = Can c.levels call × (length (trace_of c u) < 64)
+CanHappen c u (Some (Call call)) = Can c.levels call × (length (trace_of c u) < TRACE_ROOM)
 CanHappen c u (Some (Close reply effect)) = IfSome (slice_get c.users u) (λ x. CanSettle x effect)
 
 -- after any events from a start each user's event can happen

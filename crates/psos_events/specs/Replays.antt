@@ -1,5 +1,6 @@
 -- What the replay of an order stands for. States docs/promises.md, "Stands for".
 use Rattle.std.specs.Prelude.{◌≡◌, ◌+◌, ◌*◌, ◌≤◌, ◌^◌, ℕ, List, length, map}
+use Rattle.psos_limits.specs.declared.TheConstants.{MOST_CALLS}
 use Rattle.psos_calls.specs.Language.Script.{Script}
 use Rattle.psos_model.specs.Flat.{Flat}
 use Rattle.psos_model.specs.Run.{run_from, answers_from, IsLegalFrom}
@@ -15,7 +16,7 @@ pub record RunStands (s : Script) (y : System) (f : Flat) (order : List ℕ) : T
   pub sound : IsSound s (run_from s f order)
   pub room : (run_from s f order).next + 3 ≤ 2 ^ 64
   pub answered : map answered_of (entries_from s y order) ≡ answers_from s f order
-  pub few : calls_of (entries_from s y order) ≤ 44 * length order
+  pub few : calls_of (entries_from s y order) ≤ MOST_CALLS * length order
 
 -- so it is of every legal order from a start
 abbrev pub RunsStand : Type 0

@@ -4,6 +4,7 @@ use Rattle.std.specs.Prelude.{⊤, ◌↔◌, IsSome, is_some}
 use Rattle.std.specs.FinMap.{empty, get, len, len-empty, len-insert}
 use Rattle.std.specs.Ordering.{nat_cmp}
 use Rattle.std.proofs.lemmas.List.{length-replicate}
+use Rattle.psos_limits.specs.declared.TheConstants.{MOST_OBJECTS, MOST_WINDOWS, MOST_ENTRIES}
 use Rattle.psos_table.specs.Table.{Table, at, put, size}
 use Rattle.psos_table.proofs.Tables.{at-put_here, row_put, row_empty, size-empty}
 use Rattle.psos_words.specs.declared.word.Word.{Word}
@@ -57,7 +58,7 @@ one_more : (b : Bool) (n m : ℕ) → m ≡ cond b n (n + 1) → m ≤ n + 1
 one_more true n m e = omega (arith, e)
 one_more false n m e = omega (arith, e)
 
-few_names : (i : ℕ) → len (home_names i) ≤ 127
+few_names : (i : ℕ) → len (home_names i) ≤ MOST_ENTRIES
 few_names i =
     let none = len-empty name_cmp Named in
     let before : Names = empty in
@@ -178,14 +179,14 @@ scratch_life s u kind h = ap (at (boot s).life) h.is ∙ (scratch_lives s h.user
 pub boot_life_sound : (s : Script) (u : ℕ) (kind : Kind) → (at (boot s).life u ≡ Some kind) ↔ IsUserObject s boot_role (boot s) u kind
 boot_life_sound s u kind = (λ e. object_lives s u kind (life_is s u kind e), λ h. scratch_life s u kind (lives_object s u kind h))
 
-pub few_objects : (s : Script) → IsWellFormed s → size (boot s).life ≤ 512
+pub few_objects : (s : Script) → IsWellFormed s → size (boot s).life ≤ MOST_OBJECTS
 few_objects s w =
     let rows = rows_size empty 6 (λ _. kinds.Segment) 0 s.users in
     let same = ap (λ t. size t) (life_are 0 s.users) in
     let none = size-empty Kind in
     omega (arith, rows, same, none, w.few_users)
 
-pub few_windows : (s : Script) → size (boot s).windows ≤ 256
+pub few_windows : (s : Script) → size (boot s).windows ≤ MOST_WINDOWS
 few_windows s =
     let none = size-empty WinRow in
     omega (arith, none)

@@ -3,6 +3,7 @@ use Rattle.std.proofs.Common.{◌≡◌, ◌⊎◌, ℕ, ◌+◌, ◌<◌, ◌==
 use Rattle.std.specs.FinMap.{len}
 use Rattle.std.proofs.lemmas.Bool.{eq-eqb, eqb-true}
 use Rattle.std.proofs.lemmas.Option.{none-some}
+use Rattle.psos_limits.specs.declared.TheConstants.{MOST_WINDOWS, MOST_CHARGE}
 use Rattle.psos_table.specs.Table.{at, size}
 use Rattle.psos_caps.specs.Capability.{Capability, full, restricted}
 use Rattle.psos_text.specs.declared.name.Name.{Name}
@@ -93,7 +94,7 @@ module _ (f : Flat) (x : User) (is : slice_get f.users x.number ≡ Some x) (gro
   fair_window : (rd rs base span : ℕ) → Fair f x (outcome f x (asks.Window rd rs base span))
   fair_window rd rs base span =
       by_cap no (word_at (here x) rs) _ (λ c e. by_view no f c rights.Window _ (λ v there may. by_holds no (fits_in v base span) refusals.Range _ (λ _.
-      by_holds no (nat_lt (size f.windows) 256) (refusals.Exhausted Windows) _ (λ _.
+      by_holds no (nat_lt (size f.windows) MOST_WINDOWS) (refusals.Exhausted Windows) _ (λ _.
       record {
         short = refl;
         safe = (tt, ((λ p. refl), (tt, ((λ p. refl), tt))));
@@ -367,7 +368,7 @@ module _ (f : Flat) (x : User) (is : slice_get f.users x.number ≡ Some x) (gro
   fair_call : (rp : ℕ) → Fair f x (outcome f x (asks.Call rp))
   fair_call rp =
       by_cap no (word_at (here x) rp) _ (λ c e. by_holds no (nat_lt (length x.frames) 4) (refusals.Exhausted Frames) _ (λ _.
-      by_holds no (nat_le (x.charge + 16) 4096) (refusals.Exhausted Requests) _ (λ _. by_there no (at f.codes c.uid) (refusals.Absent kinds.Code) _ (λ code live.
+      by_holds no (nat_le (x.charge + 16) MOST_CHARGE) (refusals.Exhausted Requests) _ (λ _. by_there no (at f.codes c.uid) (refusals.Absent kinds.Code) _ (λ code live.
       by_holds no (has c rights.Enter) (refusals.Lacks rights.Enter) _ (λ may.
       record {
         short = refl;

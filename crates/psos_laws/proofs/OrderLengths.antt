@@ -2,6 +2,7 @@
 use Rattle.std.proofs.Common.{◌≡◌, ℕ, zero, suc, ◌+◌, ◌*◌, ◌≤◌, List, [], ◌∷◌, length, Some, refl, ap, arith}
 use Rattle.std.specs.Prelude.{slice_get, slice_set}
 use Rattle.std.proofs.lemmas.Option.{same_Some, none-some}
+use Rattle.psos_limits.specs.declared.TheConstants.{MOST_CHARGE}
 use Rattle.psos_calls.specs.Language.Script.{Script, IsWellFormed, requests_of, user_script}
 use Rattle.psos_calls.specs.Language.User.{User}
 use Rattle.psos_model.specs.Flat.{Flat}
@@ -25,10 +26,10 @@ less_by s (z ∷ zs) zero x y there less =
     omega (arith, less, same)
 less_by s (z ∷ zs) (suc u) x y there less = omega (arith, less_by s zs u x y there less)
 
-at_most : (s : Script) (users : List User) → ((u : ℕ) (x : User) → slice_get users u ≡ Some x → may_ask s x ≤ 4096) → all_may_ask s users ≤ 4096 * length users
+at_most : (s : Script) (users : List User) → ((u : ℕ) (x : User) → slice_get users u ≡ Some x → may_ask s x ≤ MOST_CHARGE) → all_may_ask s users ≤ MOST_CHARGE * length users
 at_most s [] h = omega arith
 at_most s (x ∷ xs) h =
-    let first : may_ask s x ≤ 4096 = h zero x refl in
+    let first : may_ask s x ≤ MOST_CHARGE = h zero x refl in
     let rest = at_most s xs (λ u y e. h (suc u) y e) in
     omega (arith, first, rest)
 
@@ -43,7 +44,7 @@ paid s w (u ∷ us) f h legal =
     omega (arith, rest, users, less)
 
 -- a user that has asked nothing may ask so much
-fresh_may : (s : Script) (u : ℕ) (x : User) → x.number ≡ u → IsFresh s u x → may_ask s x ≤ 4096
+fresh_may : (s : Script) (u : ℕ) (x : User) → x.number ≡ u → IsFresh s u x → may_ask s x ≤ MOST_CHARGE
 fresh_may s u x number fresh =
     let asked : length (requests_of (user_script s x.number)) ≡ length (requests_of (user_script s u)) = ap (λ n. length (requests_of (user_script s n))) number in
     let lines : lines_left s x.frames ≡ 0 = ap (lines_left s) fresh.frames in

@@ -3,6 +3,7 @@ use Rattle.std.proofs.Common.{◌≡◌, ℕ, ◌+◌, ◌<◌, ◌≤◌, true,
 use Rattle.std.specs.Prelude.{IsSome, is_some}
 use Rattle.std.specs.FinMap.{empty, get-empty}
 use Rattle.std.proofs.lemmas.Bool.{cases_eq, false≢true, eq-eqb, ne_eqb}
+use Rattle.psos_limits.specs.declared.TheConstants.{MOST_WORDS}
 use Rattle.psos_table.specs.Table.{Table, at, put, size}
 use Rattle.psos_table.proofs.Tables.{at-put_here, at-put_apart}
 use Rattle.psos_caps.specs.declared.rights.Rights.{Rights}
@@ -29,7 +30,7 @@ use Rattle.psos_laws.proofs.SharedParts.{Whole, Between, whole_raised, whole_reg
 -- ---- between the making and the telling
 
 module _ (s : Script) (role : ℕ → Role) (home : ℕ → ℕ × Name) (f : Flat) (w : Whole s role home f) where
-  made_segment : (k size : ℕ) (guard : Rights) → at f.segments k ≡ None → k < f.next → role k ≡ roles.Segment → 1 ≤ size → size ≤ 512 → IsGuard guard.0
+  made_segment : (k size : ℕ) (guard : Rights) → at f.segments k ≡ None → k < f.next → role k ≡ roles.Segment → 1 ≤ size → size ≤ MOST_WORDS → IsGuard guard.0
       → Between s role f (record f { segments = put f.segments k (new_segment size guard) }) k
   made_segment k size guard none below is some few good =
       let g : Flat = record f { segments = put f.segments k (new_segment size guard) } in
@@ -67,7 +68,7 @@ module _ (s : Script) (role : ℕ → Role) (home : ℕ → ℕ × Name) (f : Fl
       }
 
   made_object : (k : ℕ) (o : Object) (size : ℕ) → at f.objects k ≡ None → at f.segments o.rep ≡ None → k < f.next → o.rep < f.next → role k ≡ roles.Object → role o.rep ≡ PartOf k
-      → IsSome (at f.types o.of) → 1 ≤ size → size ≤ 512 → IsGuard 1
+      → IsSome (at f.types o.of) → 1 ≤ size → size ≤ MOST_WORDS → IsGuard 1
       → Between s role f (record f { objects = put f.objects k o; segments = put f.segments o.rep (new_segment size (record { 0 = 1 })) }) k
   made_object k o size no_object no_segment below rep_below is part typ some few good =
       let g : Flat = record f { objects = put f.objects k o; segments = put f.segments o.rep (new_segment size (record { 0 = 1 })) } in
@@ -161,7 +162,7 @@ module _ (s : Script) (role : ℕ → Role) (home : ℕ → ℕ × Name) (f : Fl
       shared_of s (one new) homes (changed_all g (Register f.next d name kind ∷ []))
       (whole_register s (one new) homes next_1 g f.next (whole_1 new) b d name kind p.row live p.none p.room p.few new_life (with_at_here home f.next (d, name)) (ap kind_of (with_at_here role f.next new) ∙ is) object)
 
-  pub mkseg_sound : (size : ℕ) (guard : Rights) → 1 ≤ size → size ≤ 512 → IsGuard guard.0
+  pub mkseg_sound : (size : ℕ) (guard : Rights) → 1 ≤ size → size ≤ MOST_WORDS → IsGuard guard.0
       → IsSoundShared s (record (changed_all f (MakeSegment f.next size guard ∷ Register f.next d name kinds.Segment ∷ Fresh ∷ [])) { users = us })
   mkseg_sound size guard some few good =
       let role_1 = with_at_here role f.next roles.Segment in
@@ -205,7 +206,7 @@ module _ (s : Script) (role : ℕ → Role) (home : ℕ → ℕ × Name) (f : Fl
       shared_of s (two new rep) homes (changed_all g (Register f.next d name kind ∷ []))
       (whole_register s (two new rep) homes next_2 g f.next (whole_2 new rep) b d name kind p.row live p.none p.room p.few new_life (with_at_here home f.next (d, name)) (ap kind_of (role_first new rep) ∙ is) object)
 
-  pub mkobj_sound : (of size : ℕ) → IsSome (at f.types of) → 1 ≤ size → size ≤ 512
+  pub mkobj_sound : (of size : ℕ) → IsSome (at f.types of) → 1 ≤ size → size ≤ MOST_WORDS
       → IsSoundShared s (record (changed_all f (MakeObject f.next (record { of = of; rep = f.next + 1 }) size ∷ Register f.next d name kinds.Object ∷ Fresh ∷ Fresh ∷ [])) { users = us })
   mkobj_sound of size typ some few =
       let o : Object = record { of = of; rep = f.next + 1 } in

@@ -4,6 +4,7 @@ use Rattle.std.specs.Prelude.{IsSome, is_some}
 use Rattle.std.specs.FinMap.{len, get, empty_of_len, get-empty}
 use Rattle.std.proofs.lemmas.Bool.{cases_eq, false≢true}
 use Rattle.std.proofs.lemmas.Option.{same_Some}
+use Rattle.psos_limits.specs.declared.TheConstants.{MOST_WINDOWS}
 use Rattle.psos_table.specs.Table.{Table, at, without, size}
 use Rattle.psos_table.proofs.Tables.{at-without_here, at-without_apart, size-kept}
 use Rattle.psos_text.specs.declared.name.Name.{Name}
@@ -32,7 +33,7 @@ gone t k h = false≢true (sym (ap is_some (at-without_here t k)) ∙ h)
 -- ---- between the dropping and the end of the telling
 
 module _ (s : Script) (role : ℕ → Role) (home : ℕ → ℕ × Name) (f : Flat) (w : Whole s role home f) (k : ℕ) where
-  few_windows : (u : ℕ) → size (windows_but f u) ≤ 256
+  few_windows : (u : ℕ) → size (windows_but f u) ≤ MOST_WINDOWS
   few_windows u = omega (arith, size-kept (is_not_over u) f.windows, w.windows)
 
   user_of : (kind : Kind) → at f.life k ≡ Some kind → IsUserObject s role f k kind

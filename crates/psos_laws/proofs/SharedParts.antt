@@ -5,6 +5,7 @@ use Rattle.std.specs.Option.{option_map}
 use Rattle.std.specs.FinMap.{len}
 use Rattle.std.proofs.lemmas.Bool.{cases_eq}
 use Rattle.std.proofs.lemmas.Option.{same_Some}
+use Rattle.psos_limits.specs.declared.TheConstants.{MOST_OBJECTS, MOST_WINDOWS, MOST_ENTRIES}
 use Rattle.psos_table.specs.Table.{Table, at, has, put, without, edit, size}
 use Rattle.psos_table.proofs.Tables.{at-put_here, at-put_apart, at-edit_here, at-edit_apart, at-without_here, at-without_apart, size-put, size-without}
 use Rattle.psos_caps.specs.Capability.{Capability}
@@ -29,8 +30,8 @@ pub record Whole (s : Script) (role : ℕ → Role) (home : ℕ → ℕ × Name)
   pub rows : Rows s role f
   pub life : Life s role f
   pub boots : Boots s f
-  pub objects : size f.life ≤ 512
-  pub windows : size f.windows ≤ 256
+  pub objects : size f.life ≤ MOST_OBJECTS
+  pub windows : size f.windows ≤ MOST_WINDOWS
   pub kept : IsKept home f
 
 pub whole_of : (s : Script) (f : Flat) (h : IsSoundShared s f) → Whole s h.role h.home f
@@ -116,7 +117,7 @@ module _ (s : Script) (role : ℕ → Role) (home : ℕ → ℕ × Name) (f : Fl
         kept = kept_on home f g (λ d n. refl) (λ o. refl) w.kept;
       }
 
-  pub whole_window : (k : ℕ) (row : WinRow) → IsSoundWindow role f k row → size f.windows < 256 → Whole s role home (record f { windows = put f.windows k row })
+  pub whole_window : (k : ℕ) (row : WinRow) → IsSoundWindow role f k row → size f.windows < MOST_WINDOWS → Whole s role home (record f { windows = put f.windows k row })
   whole_window k row new room =
       let g : Flat = record f { windows = put f.windows k row } in
       record {
@@ -124,7 +125,7 @@ module _ (s : Script) (role : ℕ → Role) (home : ℕ → ℕ × Name) (f : Fl
         life = life_on s role f g refl (λ u. alike s role f g u (record { segments = refl; dirs = refl; types = refl; objects = refl; codes = refl })) w.life;
         boots = boots_on s f g (λ d x _ e. stays f.dirs d x e) (λ b h. h) w.boots;
         objects = w.objects;
-        windows = one_more f.windows k 256 row room;
+        windows = one_more f.windows k MOST_WINDOWS row room;
         kept = kept_on home f g (λ d n. refl) (λ o. refl) w.kept;
       }
 
@@ -161,11 +162,11 @@ module _ (s : Script) (role : ℕ → Role) (home : ℕ → ℕ × Name) (f : Fl
         kept = kept;
       }
 
-  pub whole_bind : (d : ℕ) (name : Name) (cap : Capability) (x : Directory) → at f.dirs d ≡ Some x → named x name ≡ None → len x.names < 127
+  pub whole_bind : (d : ℕ) (name : Name) (cap : Capability) (x : Directory) → at f.dirs d ≡ Some x → named x name ≡ None → len x.names < MOST_ENTRIES
       → Whole s role home (record f { dirs = edit f.dirs d (with_entry name (record { cap = cap; kept = false })) })
   whole_bind d name cap x live none room =
       entries_whole d (with_entry name (record { cap = cap; kept = false })) (λ x. refl) (λ x. refl)
-      (entry_rows s role f w.rows d name (record { cap = cap; kept = false }) f.life (λ y e. subst (λ z. len z.names < 127) (same_Some x y (sym live ∙ e)) room))
+      (entry_rows s role f w.rows d name (record { cap = cap; kept = false }) f.life (λ y e. subst (λ z. len z.names < MOST_ENTRIES) (same_Some x y (sym live ∙ e)) room))
       (kept_bind home f w.kept d name cap (ap (λ (o : Option Directory). name_in o name) live ∙ none))
 
   pub whole_unbind : (d : ℕ) (name : Name) (e : Named) → entry_in f d name ≡ Some e → e.kept ≡ false → Whole s role home (record f { dirs = edit f.dirs d (without_entry name) })
@@ -183,7 +184,7 @@ pub record Between (s : Script) (role : ℕ → Role) (f g : Flat) (o : ℕ) : T
   pub life : g.life ≡ f.life
   pub boots : Boots s g
   pub entries : (d : ℕ) (name : Name) → entry_in g d name ≡ entry_in f d name
-  pub windows : size g.windows ≤ 256
+  pub windows : size g.windows ≤ MOST_WINDOWS
 
 module _ (s : Script) (role : ℕ → Role) (home : ℕ → ℕ × Name) (f g : Flat) (o : ℕ) (w : Whole s role home f) (b : Between s role f g o) (d : ℕ) (name : Name) where
   kept_between : IsKept home g
@@ -195,12 +196,12 @@ module _ (s : Script) (role : ℕ → Role) (home : ℕ → ℕ × Name) (f g : 
       let h : Flat = record g { dirs = edit g.dirs d e; life = life } in
       alike_through s role f g h v (b.others v off) (alike s role g h v (record { segments = refl; dirs = same_edit g.dirs d e v; types = refl; objects = refl; codes = refl }))
 
-  pub whole_register : (kind : Kind) (x : Directory) → at g.dirs d ≡ Some x → named x name ≡ None → len x.names < 127 → size f.life < 512 → at f.life o ≡ None → home o ≡ (d, name)
+  pub whole_register : (kind : Kind) (x : Directory) → at g.dirs d ≡ Some x → named x name ≡ None → len x.names < MOST_ENTRIES → size f.life < MOST_OBJECTS → at f.life o ≡ None → home o ≡ (d, name)
       → kind_of (role o) ≡ Some kind → IsUserObject s role g o kind
       → Whole s role home (record g { dirs = edit g.dirs d (with_entry name (kept_entry o)); life = put g.life o kind })
   whole_register kind x live none room few new at_home is object =
       let h : Flat = record g { dirs = edit g.dirs d (with_entry name (kept_entry o)); life = put g.life o kind } in
-      let rows = entry_rows s role g b.rows d name (kept_entry o) (put g.life o kind) (λ y e. subst (λ z. len z.names < 127) (same_Some x y (sym live ∙ e)) room) in
+      let rows = entry_rows s role g b.rows d name (kept_entry o) (put g.life o kind) (λ y e. subst (λ z. len z.names < MOST_ENTRIES) (same_Some x y (sym live ∙ e)) room) in
       let same : SameLive g h o = record { segments = refl; dirs = same_edit g.dirs d (with_entry name (kept_entry o)) o; types = refl; objects = refl; codes = refl } in
       record {
         rows = rows;
@@ -208,7 +209,7 @@ module _ (s : Script) (role : ℕ → Role) (home : ℕ → ℕ × Name) (f g : 
             (λ v off. at-put_apart g.life o kind v off ∙ ap (λ (t : Table Kind). at t v) b.life) w.life
             kind (at-put_here g.life o kind) is ((alike s role g h o same).to kind object);
         boots = boots_on s g h (λ a y _ e. stays_edit g.dirs d (with_entry name (kept_entry o)) (λ y. refl) (λ y. refl) a y e) (λ v there. there) b.boots;
-        objects = one_more g.life o 512 kind (subst (λ (t : Table Kind). size t < 512) (sym b.life) few);
+        objects = one_more g.life o MOST_OBJECTS kind (subst (λ (t : Table Kind). size t < MOST_OBJECTS) (sym b.life) few);
         windows = b.windows;
         kept = kept_register home g kept_between d name o kind x live (ap (λ (z : Option Directory). name_in z name) live ∙ none) (ap (λ (t : Table Kind). at t o) b.life ∙ new) at_home;
       }
@@ -225,7 +226,7 @@ module _ (s : Script) (role : ℕ → Role) (home : ℕ → ℕ × Name) (f g : 
             (λ v off. at-without_apart g.life o v off ∙ ap (λ (t : Table Kind). at t v) b.life) w.life
             (at-without_here g.life o) (λ k x. gone k ((alike s role g h o same).back k x));
         boots = boots_on s g h (λ a y _ e. stays_edit g.dirs d (without_entry name) (λ y. refl) (λ y. refl) a y e) (λ v there. there) b.boots;
-        objects = one_fewer g.life o 512 (subst (λ (t : Table Kind). size t ≤ 512) (sym b.life) w.objects);
+        objects = one_fewer g.life o MOST_OBJECTS (subst (λ (t : Table Kind). size t ≤ MOST_OBJECTS) (sym b.life) w.objects);
         windows = b.windows;
         kept = kept_unregister home g kept_between d name o (b.entries d name ∙ there);
       }

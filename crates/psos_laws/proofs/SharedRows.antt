@@ -6,6 +6,7 @@ use Rattle.std.specs.FinMap.{len, empty, insert, remove, contains_key, len-inser
 use Rattle.std.proofs.lemmas.List.{length-set, length-replicate}
 use Rattle.std.proofs.lemmas.Bool.{cases_eq, not-true, eqb-false, eq-eqb, lt-ltb, true≢false}
 use Rattle.std.proofs.lemmas.Option.{same_Some, none-some}
+use Rattle.psos_limits.specs.declared.TheConstants.{MOST_WORDS, MOST_ENTRIES}
 use Rattle.psos_table.specs.Table.{Table, at, put, without, kept, edit, size}
 use Rattle.psos_table.proofs.Tables.{at-put_here, at-put_apart, at-edit_here, at-edit_apart, at-without_apart, row-without, row-kept, at-kept, size-some, row_put, row_edited, row_without}
 use Rattle.std.proofs.lemmas.Map.Entries.{option_filter}
@@ -235,7 +236,7 @@ module _ (s : Script) (role : ℕ → Role) (f : Flat) (r : Rows s role f) where
       (row_put (λ v x. IsSoundWindow role g v x) f.windows k w (on k w new) (λ u x e. on u x (r.windows u x e)))
       (λ u x e. object_on role f g le u x (λ t. t) (under_same f.segments x.rep) (r.objects u x e))
 
-  pub segment_rows : (k size : ℕ) (guard : Rights) → at f.segments k ≡ None → k < f.next → role k ≡ roles.Segment → 1 ≤ size → size ≤ 512 → IsGuard guard.0
+  pub segment_rows : (k size : ℕ) (guard : Rights) → at f.segments k ≡ None → k < f.next → role k ≡ roles.Segment → 1 ≤ size → size ≤ MOST_WORDS → IsGuard guard.0
       → Rows s role (record f { segments = put f.segments k (new_segment size guard) })
   segment_rows k size guard none below is some few good =
       let new : Segment = new_segment size guard in
@@ -251,7 +252,7 @@ module _ (s : Script) (role : ℕ → Role) (f : Flat) (r : Rows s role f) where
       (λ u x e. object_on role f g le u x (λ t. t) (under x.rep) (r.objects u x e))
 
   pub object_rows : (k : ℕ) (o : Object) (size : ℕ) → at f.objects k ≡ None → at f.segments o.rep ≡ None → k < f.next → o.rep < f.next → role k ≡ roles.Object → role o.rep ≡ PartOf k
-      → IsSome (at f.types o.of) → 1 ≤ size → size ≤ 512 → IsGuard 1
+      → IsSome (at f.types o.of) → 1 ≤ size → size ≤ MOST_WORDS → IsGuard 1
       → Rows s role (record f { objects = put f.objects k o; segments = put f.segments o.rep (new_segment size (record { 0 = 1 })) })
   object_rows k o size no_object no_segment below rep_below is part typ some few good =
       let new : Segment = new_segment size (record { 0 = 1 }) in
@@ -369,7 +370,7 @@ module _ (s : Script) (role : ℕ → Role) (f : Flat) (r : Rows s role f) where
 
   -- ---- directories
 
-  pub entry_rows : (d : ℕ) (name : Name) (e : Named) (life : Table Kind) → ((x : Directory) → at f.dirs d ≡ Some x → len x.names < 127)
+  pub entry_rows : (d : ℕ) (name : Name) (e : Named) (life : Table Kind) → ((x : Directory) → at f.dirs d ≡ Some x → len x.names < MOST_ENTRIES)
       → Rows s role (record f { dirs = edit f.dirs d (with_entry name e); life = life })
   entry_rows d name e life room = dirs_rows (edit f.dirs d (with_entry name e)) life (row_edited (λ v x. IsSoundDirectory role f v x) f.dirs d (with_entry name e)
       (λ x is h. record {

@@ -6,6 +6,7 @@ use Rattle.std.specs.Int.RustNames.{bit_or}
 use Rattle.std.specs.FinMap.{len}
 use Rattle.std.proofs.lemmas.Bool.{and_parts, not-true, ltb-true, leb-true, eqb-true}
 use Rattle.std.proofs.lemmas.Option.{same_Some, none-some}
+use Rattle.psos_limits.specs.declared.TheConstants.{MOST_WORDS, MOST_WINDOWS, MOST_CHARGE}
 use Rattle.psos_table.specs.Table.{at, size}
 use Rattle.psos_text.specs.declared.name.Name.{Name}
 use Rattle.psos_words.specs.declared.word.Word.{Word}
@@ -62,13 +63,13 @@ guard_is (suc (suc (suc (suc (suc (suc (suc (suc n)))))))) below = absurd (omega
 
 record IsLength (n : ℕ) : Type 0 where
   some : 1 ≤ n
-  few : n ≤ 512
+  few : n ≤ MOST_WORDS
 
 length_is : (n : ℕ) → is_length n ≡ true → IsLength n
 length_is n e =
-    let both = and_parts (nat_lt 0 n) (nat_le n 512) e in
+    let both = and_parts (nat_lt 0 n) (nat_le n MOST_WORDS) e in
     let some : 0 < n = ltb-true 0 n both.0 in
-    record { some = omega (arith, some); few = leb-true n 512 both.1 }
+    record { some = omega (arith, some); few = leb-true n MOST_WORDS both.1 }
 
 -- the words that a view leads to
 record SeesWords (f : Flat) (v : View) : Type 0 where
@@ -118,7 +119,7 @@ module _ (s : Script) (f : Flat) (h : IsSoundShared s f) where
   minted : (us : List User) → IsSoundShared s (record (changed_all f (Fresh ∷ [])) { users = us })
   minted us = shared_of s h.role h.home (record f { next = f.next + 1; users = us }) (whole_raised s h.role h.home f w h.role h.home (f.next + 1) us (omega arith) (λ v _. refl) (λ o _. refl))
 
-  windowed : (v : View) (base span : ℕ) → SeesWords f v → fits_in v base span ≡ true → size f.windows < 256 → (us : List User)
+  windowed : (v : View) (base span : ℕ) → SeesWords f v → fits_in v base span ≡ true → size f.windows < MOST_WINDOWS → (us : List User)
       → IsSoundShared s (record (changed_all f (MakeWindow f.next (part_of v base span) ∷ Fresh ∷ [])) { users = us })
   windowed v base span words fits room us =
       let role = with_at h.role f.next roles.Window in
@@ -172,8 +173,8 @@ module _ (s : Script) (f : Flat) (h : IsSoundShared s f) where
       shared_of s h.role h.home _ (whole_word s h.role h.home (record f { users = us }) (with_users us) v.seg (v.base + n) (word_at (here x) rv))))))
   keeps x (asks.Window rd rs base span) range =
       by_cap no (word_at (here x) rs) _ (λ c _. by_view no f c rights.Window _ (λ v found _. by_holds no (fits_in v base span) refusals.Range _ (λ fits.
-      by_holds no (nat_lt (size f.windows) 256) (refusals.Exhausted Windows) _ (λ room.
-      windowed v base span (sees s h.role f w.rows c.uid v found) fits (ltb-true (size f.windows) 256 room)))))
+      by_holds no (nat_lt (size f.windows) MOST_WINDOWS) (refusals.Exhausted Windows) _ (λ room.
+      windowed v base span (sees s h.role f w.rows c.uid v found) fits (ltb-true (size f.windows) MOST_WINDOWS room)))))
   keeps x (asks.Length rd rs) range = by_cap no (word_at (here x) rs) _ (λ c _. by_view no f c rights.Read _ (λ v _ _. nothing))
   keeps x (asks.Lookup rd rs name) range =
       by_cap no (word_at (here x) rs) _ (λ c _. by_dir no f c rights.Lookup _ (λ d _ _. by_there no (named d name) refusals.UnknownName _ (λ e _. nothing)))
@@ -219,7 +220,7 @@ module _ (s : Script) (f : Flat) (h : IsSoundShared s f) where
       shared_of s h.role h.home _ (whole_post s h.role h.home (record f { users = us }) (with_users us) c.uid (word_at (here x) rv) box live (ltb-true (length box) 8 room)))))))
   keeps x (asks.Recv rd) range = by_there no (at f.boxes x.process) refusals.Empty _ (λ box _. by_received x.process rd box)
   keeps x (asks.Call rp) range =
-      by_cap no (word_at (here x) rp) _ (λ c _. by_holds no (nat_lt (length x.frames) 4) (refusals.Exhausted Frames) _ (λ _. by_holds no (nat_le (x.charge + 16) 4096) (refusals.Exhausted Requests) _ (λ _.
+      by_cap no (word_at (here x) rp) _ (λ c _. by_holds no (nat_lt (length x.frames) 4) (refusals.Exhausted Frames) _ (λ _. by_holds no (nat_le (x.charge + 16) MOST_CHARGE) (refusals.Exhausted Requests) _ (λ _.
       by_there no (at f.codes c.uid) (refusals.Absent kinds.Code) _ (λ code _. by_holds no (has c rights.Enter) (refusals.Lacks rights.Enter) _ (λ _. nothing)))))
   keeps x (asks.Path rs) range =
       by_cap no (word_at (here x) rs) _ (λ c _. by_holds no (nat_lt (length x.path) 4) (refusals.Exhausted Path) _ (λ _. by_dir no f c rights.Lookup _ (λ d _ _. nothing)))

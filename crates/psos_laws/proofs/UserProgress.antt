@@ -2,6 +2,7 @@
 use Rattle.std.proofs.Common.{◌≡◌, ℕ, ◌+◌, ◌-◌, ◌<◌, ◌≤◌, Bool, true, false, cond, List, [], ◌∷◌, length, nat_le, refl, sym, ap, subst, ◌∙◌, arith}
 use Rattle.std.specs.Prelude.{slice_set}
 use Rattle.std.proofs.lemmas.Bool.{leb-false}
+use Rattle.psos_limits.specs.declared.TheConstants.{MOST_CHARGE}
 use Rattle.psos_words.specs.declared.word.Word.{Word}
 use Rattle.psos_words.specs.Words.{word_at}
 use Rattle.psos_calls.specs.declared.effect.Effect.{Effect}
@@ -65,7 +66,7 @@ ended_ends s x (q ∷ outer) is = by_test (nat_le (length (body_of s q.label)) q
 
 record Settles (s : Script) (x y : User) : Type 0 where
   same : IsSame x y
-  most : x.charge ≤ 4096 → y.charge ≤ 4096
+  most : x.charge ≤ MOST_CHARGE → y.charge ≤ MOST_CHARGE
   lines : lines_left s y.frames + x.charge ≤ lines_left s x.frames + y.charge
 
 put_settles : (s : Script) (x : User) (frames : List Frame) (i : ℕ) (w : Word) → x.frames ≡ frames → Settles s x (with_reg x frames i w)
@@ -92,7 +93,7 @@ settled_settles s w f x (Enter label link) y is room =
 
 -- what a user may still ask at most: what is left, and what its charge can still grow by
 abbrev pub may_ask : Script → User → ℕ
-may_ask s x = (4096 + ((length (requests_of (user_script s x.number)) - x.answered) + lines_left s x.frames)) - x.charge
+may_ask s x = (MOST_CHARGE + ((length (requests_of (user_script s x.number)) - x.answered) + lines_left s x.frames)) - x.charge
 
 -- how many script requests the close of one more request counts
 abbrev pub one_if_outside : List Frame → ℕ
@@ -103,7 +104,7 @@ one_if_outside (q ∷ outer) = 0
 pub record IsGoing (s : Script) (u : ℕ) (x : User) : Type 0 where
   pub number : x.number ≡ u
   pub line : HasLine s x.frames
-  pub most : x.charge ≤ 4096
+  pub most : x.charge ≤ MOST_CHARGE
   pub few : x.answered ≤ length (requests_of (user_script s u))
 
 -- one step of it: a script request is counted, or a line, and less may be asked from then on
@@ -157,7 +158,7 @@ goes_on s w f u x e room h asks =
     let asked : length (requests_of (user_script s last.number)) ≡ R = ap (λ n. length (requests_of (user_script s n))) number in
     let own : R ≡ length (requests_of (user_script s u)) = ap (λ n. length (requests_of (user_script s n))) h.number in
     let within : x.answered + one_if_outside x.frames ≤ R = counts_within s x x.frames asks (omega (arith, h.few, own)) in
-    let most : last.charge ≤ 4096 = omega (arith, end.charge, two.most (omega (arith, one.charge, h.most))) in
+    let most : last.charge ≤ MOST_CHARGE = omega (arith, end.charge, two.most (omega (arith, one.charge, h.most))) in
     let small = one_at_most x.frames in
     record {
       going = record {

@@ -5,6 +5,7 @@ use Rattle.std.specs.List.{AllByRecursion}
 use Rattle.std.proofs.lemmas.Bool.{leb-false}
 use Rattle.std.proofs.lemmas.List.{length-set}
 use Rattle.std.proofs.lemmas.Option.{same_Some}
+use Rattle.psos_limits.specs.declared.TheConstants.{MOST_CHARGE}
 use Rattle.psos_words.specs.declared.word.Word.{Word}
 use Rattle.psos_words.specs.Words.{word_at}
 use Rattle.psos_table.specs.Table.{at}
@@ -33,7 +34,7 @@ record IsOwn (u : ℕ) (x : User) : Type 0 where
   process : x.process ≡ process_of u
   regs : length x.regs ≡ 16
   path : length x.path ≤ 4
-  most : x.charge ≤ 4096
+  most : x.charge ≤ MOST_CHARGE
 
 -- these open bodies, with so many lines answered and such a charge
 record ArePaid (s : Script) (within charge : ℕ) (frames : List Frame) : Type 0 where
@@ -161,7 +162,7 @@ abbrev pub Fits : Script → User → Effect → Type 0
 Fits s x Nothing = Unit {0}
 Fits s x (Put i w) = Unit {0}
 Fits s x (Push c) = length x.path < 4
-Fits s x (Enter label link) = (length x.frames < 4) × (x.charge + 16 ≤ 4096) × (label < length s.codes)
+Fits s x (Enter label link) = (length x.frames < 4) × (x.charge + 16 ≤ MOST_CHARGE) × (label < length s.codes)
 
 settled_nearly : (s : Script) → IsWellFormed s → (u : ℕ) (x : User) (e : Effect) → Fits s x e → IsNearly s u x → IsNearly s u (settled x e)
 settled_nearly s w u x Nothing fits h = h

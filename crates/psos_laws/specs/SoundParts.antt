@@ -1,5 +1,6 @@
 -- Three parts of a sound state, each kept for reasons of its own. States docs/promises.md, "Sound states".
 use Rattle.std.specs.Prelude.{◌≡◌, ◌<◌, ◌≤◌, ◌↔◌, ℕ, Bool, List, length, IsSome, Some, slice_get}
+use Rattle.psos_limits.specs.declared.TheConstants.{MOST_OBJECTS, MOST_WINDOWS}
 use Rattle.psos_table.specs.Table.{at, size}
 use Rattle.psos_caps.specs.Capability.{Capability}
 use Rattle.psos_text.specs.declared.name.Name.{Name}
@@ -50,6 +51,6 @@ pub record IsSoundShared (s : Script) (f : Flat) : Type 0 where
   pub root : IsFromBoot f 1 2
   pub homes : (i : ℕ) → i < length s.users → IsFromBoot f (home_of i) (home_rep_of i)
   pub processes : (i : ℕ) → i < length s.users → IsSome (at f.boxes (process_of i))
-  pub few_objects : size f.life ≤ 512
-  pub few_windows : size f.windows ≤ 256
+  pub few_objects : size f.life ≤ MOST_OBJECTS
+  pub few_windows : size f.windows ≤ MOST_WINDOWS
   pub kept : IsKept home f

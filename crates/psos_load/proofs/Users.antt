@@ -3,6 +3,7 @@ use Rattle.std.proofs.Common.{◌≡◌, ◌≢◌, ℕ, zero, suc, ◌+◌, ◌
 use Rattle.std.specs.Prelude.{codes}
 use Rattle.std.specs.List.{flat_map, AllByRecursion}
 use Rattle.std.proofs.lemmas.Fmt.{decimal_injective}
+use Rattle.psos_limits.specs.declared.TheConstants.{MOST_LINES}
 use Rattle.psos_text.specs.Draws.{first_draw, draws}
 use Rattle.psos_calls.specs.Language.Script.{UserScript, AreDistinct, IsUserScript}
 use Rattle.psos_model.specs.Text.Operands.{Text}
@@ -35,7 +36,7 @@ users_are_spelled (suc n) lines u x h small =
     (one_more_line (user_line u) (load_lines lines x ++ rest) (codes "user" ∷ user_name u ∷ []) (requests ++ wss) (head_is_line u (omega arith))
     (requests_are_spelled lines x rest wss small (users_are_spelled n lines (u + 1) (draws lines x) (omega arith) (draws_are_small lines x small))))
 
-users_are_short : (n lines u x : ℕ) → lines ≤ 240 → u + n ≤ 65536 → x < 65536 → length (load_users n lines u x) ≤ 33017 * n
+users_are_short : (n lines u x : ℕ) → lines ≤ MOST_LINES → u + n ≤ 65536 → x < 65536 → length (load_users n lines u x) ≤ 33017 * n
 users_are_short zero lines u x few h small = omega arith
 users_are_short (suc n) lines u x few h small =
     let rest = load_users n lines (u + 1) (draws lines x) in
@@ -46,7 +47,7 @@ users_are_short (suc n) lines u x few h small =
 
 -- ---- the script
 
-users_are_scripts : (n lines u x : ℕ) → lines ≤ 240 → u + n ≤ 65536 → x < 65536 → AllByRecursion (IsUserScript 0) (made_users n lines u x)
+users_are_scripts : (n lines u x : ℕ) → lines ≤ MOST_LINES → u + n ≤ 65536 → x < 65536 → AllByRecursion (IsUserScript 0) (made_users n lines u x)
 users_are_scripts zero lines u x few h small = tt
 users_are_scripts (suc n) lines u x few h small = (
   record {
@@ -75,7 +76,7 @@ users_are_so_many : (n lines u x : ℕ) → length (made_users n lines u x) ≡ 
 users_are_so_many zero lines u x = refl
 users_are_so_many (suc n) lines u x = ap (λ m. suc m) (users_are_so_many n lines (u + 1) (draws lines x))
 
-pub text_spells_script : (users lines seed : ℕ) → 1 ≤ users → users ≤ 8 → lines ≤ 240 → IsScript (load_text users lines seed) (made_script users lines seed)
+pub text_spells_script : (users lines seed : ℕ) → 1 ≤ users → users ≤ 8 → lines ≤ MOST_LINES → IsScript (load_text users lines seed) (made_script users lines seed)
 text_spells_script users lines seed some few short =
     let x = first_draw seed in
     let small : x < 65536 = omega arith in

@@ -33,7 +33,8 @@ fn put_restrict(alloc: Global, out: &mut Vec<u8>, x: u16) -> Result<(), AllocErr
 }
 
 /// Appends the request line of a value that was drawn. The value's low three bits choose the request, and the others a
-/// word of 64 or one of twenty names. A refusal is for memory, and a piece of the line may stand in `out` then.
+/// word of 64 or one of twenty names. `Err` only where memory runs out. and a piece of the line may stand in `out`
+/// then.
 #[tactic(auto, using(std::proofs::lemmas::List::append_assoc))]
 pub(crate) fn put_line(alloc: Global, out: &mut Vec<u8>, x: u16) -> Result<(), AllocError>
     ensures { OnOk result (out.new.items ≡ out.old.items ++ load_line x (x / 8 % 64) (x / 8 % 20)) }

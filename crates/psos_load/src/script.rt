@@ -1,5 +1,6 @@
 // The users of a script, each with its request lines.
 ghost use Rattle.std.specs.Prelude.{◌≡◌, ◌≤◌, [], ◌∷◌, ◌++◌, codes, decimal, IfOk, OnOk};
+ghost use Rattle.psos_limits.specs.declared.TheConstants.{MOST_LINES};
 ghost use Rattle.psos_text.specs.Draws.{draws};
 ghost use Rattle.psos_model.specs.Text.Load.{line_of, load_lines, load_text};
 ghost use Rattle.psos_model.specs.Text.Spelling.{IsScript};
@@ -11,12 +12,12 @@ use psos_text::put_number;
 use std::alloc::{AllocError, Global};
 
 /// The text of a script with so many users, each with so many request lines, from a seed (docs/program.md, "Load").
-/// There are one to eight users, with 1 to 240 lines each. A refusal is for memory.
+/// There are one to eight users, with 1 to 240 lines each. `Err` only where memory runs out.
 pub fn script_text(alloc: Global, users: u8, lines: u16, seed: u64) -> Result<Vec<u8>, AllocError>
     requires some_users { 1 ≤ users }
     requires few_users { users ≤ 8 }
     requires some_lines { 1 ≤ lines }
-    requires few_lines { lines ≤ 240 }
+    requires few_lines { lines ≤ MOST_LINES }
     ensures text { IfOk result (λ text. text.items ≡ load_text users lines seed) }
     ensures spells { IfOk result (λ text. IsScript text.items (made_script users lines seed)) }
 {

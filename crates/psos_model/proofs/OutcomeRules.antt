@@ -2,6 +2,7 @@
 use Rattle.std.proofs.Common.{◌≡◌, ℕ, zero, suc, ◌<◌, Bool, true, false, List, [], ◌∷◌, slice_get, nat_lt, Option, Some, None, refl}
 use Rattle.std.specs.FinMap.{len}
 use Rattle.std.proofs.lemmas.Bool.{ltb-true}
+use Rattle.psos_limits.specs.declared.TheConstants.{MOST_OBJECTS, MOST_ENTRIES}
 use Rattle.psos_table.specs.Table.{at, size}
 use Rattle.psos_caps.specs.Capability.{Capability}
 use Rattle.psos_text.specs.declared.name.Name.{Name}
@@ -25,8 +26,8 @@ pub record HasPlace (f : Flat) (d : ℕ) (name : Name) : Type 0 where
   pub row : Directory
   pub live : at f.dirs d ≡ Some row
   pub none : named row name ≡ None
-  pub room : len row.names < 127
-  pub few : size f.life < 512
+  pub room : len row.names < MOST_ENTRIES
+  pub few : size f.life < MOST_OBJECTS
 
 -- what is to be shown holds of each refusal
 pub record Refuses (P : Outcome → Type 0) : Type 0 where
@@ -59,11 +60,11 @@ module _ {P : Outcome → Type 0} (no : Refuses P) where
   pub by_dir : (f : Flat) (cap : Capability) (right : Right) (go : Directory → Outcome) → ((d : Directory) → at f.dirs cap.uid ≡ Some d → has cap right ≡ true → P (go d)) → P (if_dir f cap right go)
   by_dir f cap right go h = by_there (at f.dirs cap.uid) _ _ (λ d live. by_holds (has cap right) (refusals.Lacks right) _ (h d live))
 
-  pub by_room : (d : Directory) (name : Name) (go : Outcome) → (named d name ≡ None → len d.names < 127 → P go) → P (if_room d name go)
-  by_room d name go h = by_none (named d name) (λ _. refusals.NameTaken) _ (λ none. by_holds (nat_lt (len d.names) 127) _ _ (λ room. h none (ltb-true (len d.names) 127 room)))
+  pub by_room : (d : Directory) (name : Name) (go : Outcome) → (named d name ≡ None → len d.names < MOST_ENTRIES → P go) → P (if_room d name go)
+  by_room d name go h = by_none (named d name) (λ _. refusals.NameTaken) _ (λ none. by_holds (nat_lt (len d.names) MOST_ENTRIES) _ _ (λ room. h none (ltb-true (len d.names) MOST_ENTRIES room)))
 
-  pub by_object_room : (f : Flat) (go : Outcome) → (size f.life < 512 → P go) → P (if_object_room f go)
-  by_object_room f go h = by_holds (nat_lt (size f.life) 512) _ _ (λ few. h (ltb-true (size f.life) 512 few))
+  pub by_object_room : (f : Flat) (go : Outcome) → (size f.life < MOST_OBJECTS → P go) → P (if_object_room f go)
+  by_object_room f go h = by_holds (nat_lt (size f.life) MOST_OBJECTS) _ _ (λ few. h (ltb-true (size f.life) MOST_OBJECTS few))
 
   pub by_make : (f : Flat) (dir : Capability) (name : Name) (go : Outcome) → (HasPlace f dir.uid name → P go) → P (make_in f dir name go)
   by_make f dir name go h =

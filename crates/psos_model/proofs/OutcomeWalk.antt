@@ -3,6 +3,7 @@ use Rattle.std.proofs.Common.{◌≡◌, ℕ, ◌+◌, ◌<◌, ◌≤◌, ◌==
 use Rattle.std.specs.Prelude.{◌^◌}
 use Rattle.std.proofs.lemmas.Bool.{leb-true, ltb-true}
 use Rattle.std.specs.FinMap.{len}
+use Rattle.psos_limits.specs.declared.TheConstants.{MOST_WINDOWS, MOST_CHARGE}
 use Rattle.psos_table.specs.Table.{at, size}
 use Rattle.psos_caps.specs.Capability.{Capability, full, restricted}
 use Rattle.psos_text.specs.declared.name.Name.{Name}
@@ -56,7 +57,7 @@ abbrev pub FindsRoom : Flat → User → Effect → Type 0
 FindsRoom f x Nothing = Unit {0}
 FindsRoom f x (Put i w) = Unit {0}
 FindsRoom f x (Push c) = length x.path < 4
-FindsRoom f x (Enter label link) = (length x.frames < 4) × (x.charge + 16 ≤ 4096) × HasLabel f label
+FindsRoom f x (Enter label link) = (length x.frames < 4) × (x.charge + 16 ≤ MOST_CHARGE) × HasLabel f label
 
 -- what is not a refusal: few identifiers are used up, and the effect finds room
 pub record IsDone (f : Flat) (x : User) (o : Outcome) : Type 0 where
@@ -111,7 +112,7 @@ module _ (f : Flat) (x : User) (P : Outcome → Type 0) (refused : (r : Refusal)
       by_none no (barred v.guard.0 (word_at (here x) rv)) refusals.Guarded _ (λ _. changes_go (PutWord v.seg (v.base + n) (word_at (here x) rv) ∷ []) _ (omega arith)))))
   by_outcome (asks.Window rd rs base span) =
       by_cap no (word_at (here x) rs) _ (λ c _. by_view no f c rights.Window _ (λ v _ _. by_holds no (fits_in v base span) refusals.Range _ (λ _.
-      by_holds no (nat_lt (size f.windows) 256) (refusals.Exhausted Windows) _ (λ _.
+      by_holds no (nat_lt (size f.windows) MOST_WINDOWS) (refusals.Exhausted Windows) _ (λ _.
       word_goes (MakeWindow f.next (part_of v base span) ∷ Fresh ∷ []) rd (Cap (record { uid = f.next; rights = c.rights })) None (omega arith)))))
   by_outcome (asks.Length rd rs) = by_cap no (word_at (here x) rs) _ (λ c _. by_view no f c rights.Read _ (λ v _ _. plain rd (Data v.len) None))
   by_outcome (asks.Lookup rd rs name) =
@@ -147,10 +148,10 @@ module _ (f : Flat) (x : User) (P : Outcome → Type 0) (refused : (r : Refusal)
       by_none no (barred 1 (word_at (here x) rv)) refusals.Guarded _ (λ _. by_holds no (nat_lt (length box) 8) (refusals.Exhausted Mailbox) _ (λ _. changes_go (Post c.uid (word_at (here x) rv) ∷ []) _ (omega arith))))))
   by_outcome (asks.Recv rd) = by_there no (at f.boxes x.process) refusals.Empty _ (λ box _. by_received x.process rd box)
   by_outcome (asks.Call rp) =
-      by_cap no (word_at (here x) rp) _ (λ c _. by_holds no (nat_lt (length x.frames) 4) (refusals.Exhausted Frames) _ (λ frames. by_holds no (nat_le (x.charge + 16) 4096) (refusals.Exhausted Requests) _ (λ charge.
+      by_cap no (word_at (here x) rp) _ (λ c _. by_holds no (nat_lt (length x.frames) 4) (refusals.Exhausted Frames) _ (λ frames. by_holds no (nat_le (x.charge + 16) MOST_CHARGE) (refusals.Exhausted Requests) _ (λ charge.
       by_there no (at f.codes c.uid) (refusals.Absent kinds.Code) _ (λ code live. by_holds no (has c rights.Enter) (refusals.Lacks rights.Enter) _ (λ _.
       let label : HasLabel f code.label = record { record_uid = c.uid; code = code; live = live; label-is = refl } in
-      done _ (record { reply = refl; few = omega arith; effect = (ltb-true (length x.frames) 4 frames, leb-true (x.charge + 16) 4096 charge, label) }))))))
+      done _ (record { reply = refl; few = omega arith; effect = (ltb-true (length x.frames) 4 frames, leb-true (x.charge + 16) MOST_CHARGE charge, label) }))))))
   by_outcome (asks.Path rs) =
       by_cap no (word_at (here x) rs) _ (λ c _. by_holds no (nat_lt (length x.path) 4) (refusals.Exhausted Path) _ (λ few. by_dir no f c rights.Lookup _ (λ d _ _.
       done _ (record { reply = refl; few = omega arith; effect = ltb-true (length x.path) 4 few }))))

@@ -3,6 +3,7 @@ use Rattle.std.proofs.Common.{◌≡◌, ℕ, ◌+◌, ◌*◌, ◌<◌, true, f
 use Rattle.std.specs.Option.{unwrap_or}
 use Rattle.std.proofs.lemmas.Bool.{true≢false}
 use Rattle.std.proofs.lemmas.List.{take-append-drop}
+use Rattle.psos_limits.specs.declared.TheConstants.{SLOTS}
 use Rattle.psos_table.specs.Table.{at}
 use Rattle.psos_caps.specs.Capability.{Capability}
 use Rattle.psos_caps.specs.declared.cap.Uid.{Uid}
@@ -41,7 +42,7 @@ module _ (slot : ℕ) (trace pages rest : List Step) (f : IsSlotFront slot trace
   held : HoldsList f.levels.pages slot
   held = subst (HoldsList f.levels.pages) f.is (holds f.levels f.front.lists f.dir f.guard f.live)
 
-  pub slot-low : slot < 521
+  pub slot-low : slot < SLOTS
   slot-low = held.low
 
   both : pages ++ rest ≡ trace

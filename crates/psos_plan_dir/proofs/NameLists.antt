@@ -10,6 +10,7 @@ use Rattle.std.specs.declared.cmp.Ordering.TheVariants.{Less, Equal, Greater}
 use Rattle.std.proofs.lemmas.Bool.{true≢false}
 use Rattle.std.proofs.lemmas.List.{length-replicate, get_or-drop, take-append-drop}
 use Rattle.std.proofs.lemmas.Option.{same_Some}
+use Rattle.psos_limits.specs.declared.TheConstants.{MOST_WORDS, MOST_ENTRIES}
 use Rattle.psos_text.specs.declared.name.Name.{Name}
 use Rattle.psos_words.specs.declared.word.Word.{Word}
 use Rattle.psos_words.specs.declared.word.Word.TheVariants.{Data, Cap}
@@ -200,24 +201,24 @@ unfolding decode
 page-slots pages e =
     let few = e.few in
     let long : length words ≡ 4 * (16 * length pages) = words-long pages e.are in
-    let whole : length filled ≡ 512 = length-append words (zeros (512 - length words)) ∙ omega (arith, length-replicate {A = Word} (512 - length words) (Data 0)) in
+    let whole : length filled ≡ MOST_WORDS = length-append words (zeros (MOST_WORDS - length words)) ∙ omega (arith, length-replicate {A = Word} (MOST_WORDS - length words) (Data 0)) in
     let d = decoded filled (entry_list words) whole (decode-whole filled whole ∙ e.list) in
-    parted d (halves (16 * length pages) words (zeros (512 - length words)) d.all long d.are)
+    parted d (halves (16 * length pages) words (zeros (MOST_WORDS - length words)) d.all long d.are)
   where
     words : List Word
     words = words_of pages
 
     filled : List Word
-    filled = words ++ zeros (512 - length words)
+    filled = words ++ zeros (MOST_WORDS - length words)
 
-    parted : (d : IsDirectory filled (entry_list words)) → Halves words (zeros (512 - length words)) (16 * length pages) d.all → PageSlots pages
+    parted : (d : IsDirectory filled (entry_list words)) → Halves words (zeros (MOST_WORDS - length words)) (16 * length pages) d.all → PageSlots pages
     parted d h = record {
       front = h.front;
       are = h.first;
       apart = apart_front h.front h.back (ap are_apart (sym h.is) ∙ d.apart);
       entries =
-          ap entries_in d.is ∙ sym (entries_front (take 127 d.all) (drop 127 d.all) d.last) ∙ ap entries_in (take-append-drop 127 d.all)
-          ∙ ap entries_in h.is ∙ entries_front h.front h.back (zeros-never (512 - length words) h.back h.second);
+          ap entries_in d.is ∙ sym (entries_front (take MOST_ENTRIES d.all) (drop MOST_ENTRIES d.all) d.last) ∙ ap entries_in (take-append-drop MOST_ENTRIES d.all)
+          ∙ ap entries_in h.is ∙ entries_front h.front h.back (zeros-never (MOST_WORDS - length words) h.back h.second);
     }
 
 with_append : (a b : List Slot) (names : List Name) → with_names (a ++ b) names ≡ with_names a (with_names b names)

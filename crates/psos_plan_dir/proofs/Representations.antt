@@ -6,6 +6,7 @@ use Rattle.std.proofs.Math.Seq.{take-add, take-length}
 use Rattle.std.proofs.lemmas.Bool.{true≢false}
 use Rattle.std.proofs.lemmas.List.{take-append-drop, length-take-le}
 use Rattle.std.proofs.lemmas.Option.{none-some}
+use Rattle.psos_limits.specs.declared.TheConstants.{SLOTS, MOST_WORDS, MOST_ENTRIES}
 use Rattle.psos_table.specs.Table.{at}
 use Rattle.psos_caps.specs.declared.rights.Rights.{Rights}
 use Rattle.psos_words.specs.declared.word.Word.{Word}
@@ -37,11 +38,11 @@ any-never zero (Gone ∷ rest) short e = absurd (true≢false (sym e))
 any-never zero (Used x ∷ rest) short e = absurd (true≢false (sym e))
 any-never (suc n) (x ∷ rest) short e = ap (λ (b : Bool). was_never x || b) (any-never n rest (omega arith) e) ∙ or_true (was_never x)
 
-pub list-never : (words : List Word) (slots : List Slot) → length words ≡ 512 → decode words ≡ Some slots → has_never words ≡ true
+pub list-never : (words : List Word) (slots : List Slot) → length words ≡ MOST_WORDS → decode words ≡ Some slots → has_never words ≡ true
 list-never words slots long e =
     let d = decoded words slots long e in
     let count = d.count in
-    never-slots words d.all d.are ∙ any-never 127 d.all (omega arith) d.last
+    never-slots words d.all d.are ∙ any-never MOST_ENTRIES d.all (omega arith) d.last
 
 -- ---- page by page
 
@@ -53,8 +54,8 @@ place_of_page slot k small = omega arith
 
 -- the words of a slot are an entry list
 pub record HoldsList (pages : Pages) (slot : ℕ) : Type 0 where
-  pub low : slot < 521
-  pub long : length (slot_words pages slot) ≡ 512
+  pub low : slot < SLOTS
+  pub long : length (slot_words pages slot) ≡ MOST_WORDS
   pub entry_slots : List Slot
   pub list : decode (slot_words pages slot) ≡ Some entry_slots
 

@@ -1,6 +1,7 @@
 -- The pages that calls of a trace answered. States docs/requests.md, "Plans".
 use Rattle.std.specs.Prelude.{ℕ, ◌<◌, suc, ◌&&◌, Bool, true, false, not, List, [], ◌∷◌, length, IsTrue, nat_lt, if◌then◌else◌}
 use Rattle.std.specs.List.{AllByRecursion}
+use Rattle.psos_limits.specs.declared.TheConstants.{SLOTS}
 use Rattle.psos_words.specs.declared.word.Word.{Word}
 use Rattle.psos_words.specs.Directory.{has_never}
 use Rattle.psos_dirrep.specs.Pages.{words_of}
@@ -54,7 +55,7 @@ IsWhole _ = ⊥
 -- the pages that these calls answered, of a representation in this slot, are its entry list, and tell of a slot that
 -- was never used
 pub record IsOpen (slot : ℕ) (calls : List Step) : Type 0 where
-  pub low : slot < 521
+  pub low : slot < SLOTS
   pub whole : AllByRecursion (λ (s : Step). IsWhole s.answer) calls
   pub list : IsEntryList (pages_in calls)
   pub never : IsTrue (has_never (words_of (pages_in calls)))

@@ -60,7 +60,7 @@ fn is_used(page: &Page, k: u8) -> bool
     }
 }
 
-// The names on these pages, in order. A refusal is for memory.
+// The names on these pages, in order. `Err` only where memory runs out.
 pub(crate) fn collected(alloc: Global, calls: &[Step]) -> Result<BTreeSet<Name>, AllocError>
     requires whole { AllByRecursion (λ (s : Made). IsWhole s.answer) calls.now }
     requires slots { AllByRecursion AreSlots (pages_in calls.now) }
@@ -131,7 +131,7 @@ fn read_name(high: Word, low: Word, last: Word) -> Option<Name>
     }
 }
 
-// The names of a set as a list. A refusal is for memory.
+// The names of a set as a list. `Err` only where memory runs out.
 pub(crate) fn listed(alloc: Global, names: &BTreeSet<Name>) -> Result<Names, AllocError>
     ensures { IfOk result (λ list. list ≡ names.now.keys) }
 {

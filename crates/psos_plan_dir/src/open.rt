@@ -1,6 +1,7 @@
 // A directory by its pages in a trace.
 ghost use Rattle.std.specs.Prelude.{◌≡◌, ◌+◌, ◌*◌, ◌/◌, ◌%◌, ◌<◌, ◌≤◌, length, option_map, IfOk};
 ghost use Rattle.std.specs.List.{AllByRecursion};
+ghost use Rattle.psos_limits.specs.declared.TheConstants.{SLOTS};
 ghost use Rattle.psos_calls.specs.declared.step.Step.{Step as Made};
 ghost use Rattle.psos_text.specs.Name.{IsName};
 ghost use Rattle.psos_words.specs.Directory.{entries_in, find, slot_for};
@@ -51,7 +52,7 @@ impl<'a> Open<'a> {
     /// The slot of its representation's pages.
     pub fn slot(&self) -> u16
         ensures slot { result ≡ self.now.slot }
-        ensures low { result < 521 }
+        ensures low { result < SLOTS }
     {
         self.slot
     }
@@ -108,7 +109,8 @@ impl<'a> Open<'a> {
         none_used(self.calls)
     }
 
-    /// The names of its entries, in the order of their bytes. A refusal is for memory, and leaves nothing behind.
+    /// The names of its entries, in the order of their bytes. `Err` only where memory runs out. and leaves nothing
+    /// behind.
     pub fn names(&self, alloc: Global) -> Result<Names, AllocError>
         ensures { IfOk result (λ names. names ≡ names_of (entries_in self.now.slots)) }
     {

@@ -1,5 +1,6 @@
 // What a plan does next.
 ghost use Rattle.std.specs.Prelude.{◌≡◌, IfOk, OnErr};
+ghost use Rattle.psos_limits.specs.declared.TheConstants.{MOST_CODES};
 ghost use Rattle.psos_calls.specs.Language.Request.{InRange};
 ghost use Rattle.psos_calls.specs.Levels.{Levels};
 ghost use Rattle.psos_calls.specs.Levels.Lists.{HasLists};
@@ -16,11 +17,12 @@ use std::alloc::{AllocError, Global};
 
 /// What the plan of a request does after its calls so far (docs/requests.md, "Plans"): the next call, or the close.
 /// The request is one of directories and name spaces, and the trace is a front of a run of its plan from levels in
-/// which each live directory has an entry list. A refusal is for memory, and comes only where `list` closes with its
+/// which each live directory has an entry list. `Err` only where memory runs out. and comes only where `list` closes
+/// with its
 /// names.
 pub fn next(alloc: Global, req: &Request, me: &Private, trace: &Trace) -> Result<Next, AllocError>
     requires kind { IsOfDirectories req.now }
-    requires in_range { InRange 64 req.now }
+    requires in_range { InRange MOST_CODES req.now }
     requires trace { (l : Levels) × IsTraceOf (plan_of me.now req.now) l trace.now × HasLists l }
     ensures answer { IfOk result (λ n. n ≡ next_of (followed (plan_of me.now req.now) trace.now)) }
     ensures memory { OnErr result (IsListing req.now (followed (plan_of me.now req.now) trace.now)) }

@@ -1,6 +1,7 @@
 -- Parts of plans: a plan is parts behind one another, and after a trace each is past or not. States docs/requests.md, "Plans".
 use Rattle.std.specs.Prelude.{◌≡◌, ℕ, Option, None, List, Result, Ok, Err}
 use Rattle.std.specs.Borrow.{Bor}
+use Rattle.psos_limits.specs.declared.TheConstants.{MOST_WORDS}
 use Rattle.psos_caps.specs.declared.cap.Uid.{Uid}
 use Rattle.psos_caps.specs.declared.rights.Rights.{Rights}
 use Rattle.psos_calls.specs.declared.level_call.LevelCall.{LevelCall}
@@ -60,7 +61,7 @@ represented u len guard of go =
 
 -- a representation is made, and on it an object of no type and a directory with this guard
 abbrev pub directed : ℕ → Rights → (Unit {0} → Plan) → Plan
-directed u guard go = represented u 512 guard None (λ _. Ask (DirMake (uid u) guard) (λ a. if_done a (go tt)))
+directed u guard go = represented u MOST_WORDS guard None (λ _. Ask (DirMake (uid u) guard) (λ a. if_done a (go tt)))
 
 -- a segment goes, and its slot is freed
 abbrev pub segment_dropped : ℕ → (Unit {0} → Plan) → Plan

@@ -1,5 +1,6 @@
 // What a plan does next.
 ghost use Rattle.std.specs.Prelude.{◌≡◌, Ok};
+ghost use Rattle.psos_limits.specs.declared.TheConstants.{MOST_CODES};
 ghost use Rattle.psos_calls.specs.Language.Request.{InRange};
 ghost use Rattle.psos_calls.specs.Levels.{Levels};
 ghost use Rattle.psos_calls.specs.Levels.Lists.{HasLists};
@@ -18,7 +19,7 @@ use std::alloc::{AllocError, Global};
 /// directory has an entry list. It takes no memory, and never answers want of it.
 pub fn next(_alloc: Global, req: &Request, me: &Private, trace: &Trace) -> Result<Next, AllocError>
     requires kind { IsOfLife req.now }
-    requires in_range { InRange 64 req.now }
+    requires in_range { InRange MOST_CODES req.now }
     requires trace { (l : Levels) × IsTraceOf (plan_of me.now req.now) l trace.now × HasLists l }
     ensures { result ≡ Ok (next_of (followed (plan_of me.now req.now) trace.now)) }
 {

@@ -4,6 +4,7 @@ ghost use Rattle.psos_plan_life.specs.Parts.{Tells, segmented, represented, dire
 use crate::parts::{done, fresh, rep, slot};
 use psos_calls::{Level, LevelCall, Next, Step};
 use psos_caps::{Rights, Uid};
+use psos_limits::MOST_WORDS;
 
 // A slot is taken, and a segment is made in it.
 pub(crate) fn segment<'a>(
@@ -43,7 +44,7 @@ pub(crate) fn representation<'a>(
 pub(crate) fn directory<'a>(uid: Uid, guard: Rights, trace: &'a [Step]) -> Result<&'a [Step], Next>
     ensures { Tells (directed uid.0 guard) trace.now result }
 {
-    let trace = representation(uid, 512, guard, None, trace)?;
+    let trace = representation(uid, MOST_WORDS as u16, guard, None, trace)?;
     done(Level::L10, LevelCall::DirMake { uid, guard }, trace)
 }
 

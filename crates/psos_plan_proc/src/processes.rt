@@ -5,7 +5,8 @@ ghost use Rattle.psos_calls.specs.Plan.Trace.{followed, next_of};
 ghost use Rattle.psos_calls.specs.Plan.Processes.{plan_send, plan_recv, plan_call};
 
 use psos_calls::close::{enter, fine, give, refuse};
-use psos_calls::{Level, LevelAnswer, LevelCall, Next, Private, Refusal, Step, Tab, limits};
+use psos_calls::{Level, LevelAnswer, LevelCall, Next, Private, Refusal, Step, Tab};
+use psos_limits::{CALL_CHARGE, MOST_CHARGE, MOST_FRAMES};
 use psos_words::Word;
 
 pub(crate) fn next_send(me: &Private, rp: u8, rv: u8, trace: &[Step]) -> Next
@@ -47,10 +48,10 @@ pub(crate) fn next_call(me: &Private, rp: u8, trace: &[Step]) -> Next
     let Word::Cap(cap) = me.here(rp) else {
         return refuse(Refusal::NotCap);
     };
-    if me.open_bodies() >= limits::MOST_FRAMES {
+    if me.open_bodies() >= MOST_FRAMES {
         return refuse(Refusal::Exhausted(Tab::Frames));
     }
-    if usize::from(me.charge()) + limits::CALL_CHARGE > limits::MOST_CHARGE {
+    if usize::from(me.charge()) + CALL_CHARGE > MOST_CHARGE {
         return refuse(Refusal::Exhausted(Tab::Requests));
     }
     let Some((a, _)) = trace.split_first() else {

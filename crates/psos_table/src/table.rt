@@ -54,7 +54,7 @@ impl<V: Drop> Table<V> {
         self.rows.contains_key(&key)
     }
 
-    /// Puts a row under a number, in the place of the row there. A refusal is for memory, which only a
+    /// Puts a row under a number, in the place of the row there. `Err` only where memory runs out. which only a
     /// new number takes; it drops the value and changes nothing.
     pub fn put(&mut self, key: u64, value: V) -> Result<(), AllocError>
         ensures ok { OnOk result (self.new ≡ put self.old key value) }

@@ -19,8 +19,8 @@ pub fn read_hex4(b: &[u8]) -> Result<u16, TextFault>
     }
 }
 
-/// Appends the number in four digits `0` to `9` and `a` to `f`, the highest digit first. It fails only for want of
-/// memory, and then `out` is unchanged.
+/// Appends the number in four digits `0` to `9` and `a` to `f`, the highest digit first. `Err` only where memory runs
+/// out, and then `out` is unchanged.
 pub fn put_hex4(_alloc: Global, out: &mut Vec<u8>, h: u16) -> Result<(), AllocError>
     ensures ok { OnOk result (out.new.items ≡ out.old.items ++ hex4 h) }
     ensures err { OnErr result (out.new.items ≡ out.old.items) }

@@ -22,7 +22,7 @@ pub fn read_number(b: &[u8]) -> Result<u64, TextFault>
     }
 }
 
-/// Appends the number in decimal digits, with no leading zero but `0` itself. It fails only for want of memory, and
+/// Appends the number in decimal digits, with no leading zero but `0` itself. `Err` only where memory runs out, and
 /// then `out` is unchanged.
 pub fn put_number(_alloc: Global, out: &mut Vec<u8>, n: u64) -> Result<(), AllocError>
     ensures ok { OnOk result (out.new.items ≡ out.old.items ++ decimal n) }
