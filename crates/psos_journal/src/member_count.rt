@@ -5,7 +5,7 @@ use std::sync::ledger::{Ledger, Share};
 
 /// The number of a member's entries, as the member keeps it: its amount. It takes no bytes.
 #[derive(Drop)]
-pub(crate) struct Own<L: Ledger> {
+pub(crate) struct MemberCount<L: Ledger> {
     pub(crate) share: Share<L>,
     pub(crate) ghost whole: { share.parts ≡ 1 },
 }

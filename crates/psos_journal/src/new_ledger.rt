@@ -5,14 +5,14 @@ use std::sync::ledger::Blank;
 
 /// A new ledger of one part.
 #[derive(Drop)]
-pub(crate) struct Fresh {
+pub(crate) struct NewLedger {
     pub(crate) blank: Blank,
     pub(crate) ghost one: { blank.parts ≡ 1 },
 }
 
-impl Fresh {
-    pub(crate) fn new() -> Fresh {
-        Fresh {
+impl NewLedger {
+    pub(crate) fn new() -> NewLedger {
+        NewLedger {
             blank: Blank::new(1),
         }
     }

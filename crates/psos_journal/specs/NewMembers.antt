@@ -4,7 +4,7 @@ use Rattle.std.specs.declared.option.Option.TheVariants.{Some}
 use Rattle.psos_journal.specs.Views.{Side, new_side}
 
 -- the first of them were made, in order, as far as there are to be any, and each took one part of the ledger of told members
-pub record Rows {A : Type 0} (k most parts amount : ℕ) (members : List (Side A)) (past : List (A × ℕ)) : Type 0 where
+pub record AreNewMembers {A : Type 0} (k most parts amount : ℕ) (members : List (Side A)) (past : List (A × ℕ)) : Type 0 where
   pub size : length members ≡ min k most
   pub each : (j : ℕ) (m : Side A) → slice_get members j ≡ Some m → m ≡ new_side j
   pub bare : past ≡ []
