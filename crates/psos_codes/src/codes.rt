@@ -45,7 +45,7 @@ fn admit(word: Word) -> LevelAnswer
 }
 
 impl Codes {
-    /// No procedure record. It takes no memory.
+    /// No procedure record. It takes no memory, so there is no `Err`.
     pub fn new(alloc: Global) -> Result<Codes, AllocError>
         ensures { result ≡ Ok empty }
     {
@@ -72,8 +72,9 @@ impl Codes {
     }
 
     /// Makes a call of level 13 (docs/levels.md, "Calls"): what it leaves and answers are those of `act13`. A refusal
-    /// is an answer, and changes nothing; so is `Done` to a call of another level. `Memory` is the one fault,
-    /// of `CodeMake` alone, and the level is then as it was.
+    /// is the answer `No`, and changes nothing; a call of another level is answered with `Done`. `Err` only where memory
+    /// runs out, in `CodeMake` alone: the level is unchanged. Rows take their memory from the allocator of `new`;
+    /// `_alloc` stands there since the calls of all levels have one form.
     #[inline(never)]
     pub fn act(&mut self, _alloc: Global, call: &LevelCall) -> Result<LevelAnswer, LevelFault>
         requires { Can13 self.old call.now }

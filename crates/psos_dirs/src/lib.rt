@@ -2,7 +2,5 @@
 #![tactic(auto)]
 
 mod dirs;
-#[cfg(test)]
-mod tests;
 
 pub use dirs::Dirs;

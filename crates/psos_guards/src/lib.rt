@@ -4,9 +4,6 @@
 ghost use Rattle.std.specs.Prelude.{◌≡◌, ◌<◌, None, Some, OnOk, IfErr};
 ghost use Rattle.psos_words.specs.Guard.{has_bit, missing, barred};
 
-#[cfg(test)]
-mod tests;
-
 use psos_caps::Rights;
 use psos_words::Word;
 

@@ -8,7 +8,7 @@ use Rattle.std.proofs.lemmas.Bool.Decides.{nat_tests}
 use mathlib.Core.List.{IsPrefix}
 use prog.Atomic.{either}
 use Rattle.logbook.specs.Pages.{Cell, cell, keeps, gives, adds, nib, no_nib, may_write, may_make, step, Moves, Goes}
-use Rattle.psos_journal.specs.Cells.{entries_in, IsKept, Makes, Adds, Looks}
+use Rattle.psos_journal.specs.Cells.{entries_in, AreFilled, Makes, Adds, Looks}
 use Rattle.psos_journal.proofs.Beginnings.{entries_in-append, entries_in_begins, long_is_whole}
 
 module _ {A : Type 0} where
@@ -34,7 +34,7 @@ cell-bare (c ∷ cs) (suc j) = cell-bare cs j
 
 -- nothing is added: the entries and the cells stay
 stays : {A : Type 0} (rest : List Cell) (log : List (Option A)) (n : ℕ) → suc (length rest) ≡ n → Full rest (length (entries_in log)) → Bare rest (length (entries_in log))
-    → IsKept ((n, true) ∷ rest) (log ++ [])
+    → AreFilled ((n, true) ∷ rest) (log ++ [])
 stays rest log n size full bare = record {
   rest = rest;
   whole = ap (λ m. (m, true) ∷ rest) (sym size);
@@ -44,7 +44,7 @@ stays rest log n size full bare = record {
 
 makes_goes : {A : Type 0} (rest : List Cell) (log v : List (Option A)) (e : Option A) (old : ℕ) → Full rest (length (entries_in log)) → Bare rest (length (entries_in log))
     → (b : Bool) → (suc (length rest) == old) ≡ b
-    → Goes IsKept shown moved 0 (v, (no_nib, None)) (λ n. either (n == old) (old + 1) n) (Makes (step 0 old (old + 1) e) (v, (no_nib, None))) ((suc (length rest), true) ∷ rest) log
+    → Goes AreFilled shown moved 0 (v, (no_nib, None)) (λ n. either (n == old) (old + 1) n) (Makes (step 0 old (old + 1) e) (v, (no_nib, None))) ((suc (length rest), true) ∷ rest) log
 makes_goes rest log v e old full bare true is =
     let size : suc (length rest) ≡ old = grind (arith, nat_tests) in
     let grown : suc (length (rest ++ (0, false) ∷ [])) ≡ either (suc (length rest) == old) (old + 1) (suc (length rest)) = rw is (omega (arith, size, length-append rest ((0, false) ∷ []))) in (
@@ -68,9 +68,9 @@ makes_goes rest log v e old full bare false is = (
 
 -- whatever the cells are, one more is made, or their number was another
 pub makes_moves : {A : Type 0} (v : List (Option A)) (e : Option A) (old : ℕ)
-    → Moves IsKept shown moved 0 (v, (no_nib, None)) (λ n. either (n == old) (old + 1) n) (Makes (step 0 old (old + 1) e) (v, (no_nib, None)))
+    → Moves AreFilled shown moved 0 (v, (no_nib, None)) (λ n. either (n == old) (old + 1) n) (Makes (step 0 old (old + 1) e) (v, (no_nib, None)))
 makes_moves {A = A} v e old cs log kept pre away =
-    let P : List Cell → Type 0 = λ c. (0 < length c) × ((cell c 0).1 ≡ true) × Goes (IsKept {A = A}) shown moved 0 (v, (no_nib, None)) (λ n. either (n == old) (old + 1) n) (Makes (step 0 old (old + 1) e) (v, (no_nib, None))) c log in
+    let P : List Cell → Type 0 = λ c. (0 < length c) × ((cell c 0).1 ≡ true) × Goes (AreFilled {A = A}) shown moved 0 (v, (no_nib, None)) (λ n. either (n == old) (old + 1) n) (Makes (step 0 old (old + 1) e) (v, (no_nib, None))) c log in
     subst P (sym kept.whole) (omega arith, refl, makes_goes kept.rest log v e old kept.full kept.bare (suc (length kept.rest) == old) refl)
 
 -- the pen's cell is bare, so no entry is beyond what was seen
@@ -115,7 +115,7 @@ module _ (rest : List Cell) (n : ℕ) where
   left_bare bare j less = ap (λ (c : Cell). c.1) (get_or-set_other rest (suc n) (suc j) (0, true) (0, false) (λ e. absurd (omega (arith, e)))) ∙ bare j (omega arith)
 
 adds_goes : {A : Type 0} (rest : List Cell) (log v : List (Option A)) (x : A) (n : ℕ) → length (entries_in v) ≡ n → IsPrefix v log → AtTheEnd rest log v n
-    → Goes IsKept shown moved 0 (v, (nib may_write (suc (suc n)) 0, None)) (λ m. either (m == 0) 0 m) (Adds (step 0 0 0 (Some x)) (v, (nib may_write (suc (suc n)) 0, None))) ((suc (length rest), true) ∷ rest) log
+    → Goes AreFilled shown moved 0 (v, (nib may_write (suc (suc n)) 0, None)) (λ m. either (m == 0) 0 m) (Adds (step 0 0 0 (Some x)) (v, (nib may_write (suc (suc n)) 0, None))) ((suc (length rest), true) ∷ rest) log
 adds_goes rest log v x n size pre end =
     let same : entries_in v ≡ entries_in log = long_is_whole _ _ (entries_in_begins v log pre) (omega (arith, end.all)) in
     let here : length (entries_in log) ≡ n = sym (ap length same) ∙ size in
@@ -137,18 +137,18 @@ adds_goes rest log v x n size pre end =
 
 -- whatever the cells are, the entry is added to all that was seen
 pub adds_moves : {A : Type 0} (v : List (Option A)) (x : A) (n : ℕ) → length (entries_in v) ≡ n
-    → Moves IsKept shown moved 0 (v, (nib may_write (suc (suc n)) 0, None)) (λ m. either (m == 0) 0 m) (Adds (step 0 0 0 (Some x)) (v, (nib may_write (suc (suc n)) 0, None)))
+    → Moves AreFilled shown moved 0 (v, (nib may_write (suc (suc n)) 0, None)) (λ m. either (m == 0) 0 m) (Adds (step 0 0 0 (Some x)) (v, (nib may_write (suc (suc n)) 0, None)))
 adds_moves {A = A} v x n size cs log kept pre away =
     let P : List Cell → Type 0 = λ c. (suc (suc n) < length c) × ((cell c (suc (suc n))).1 ≡ false) → (0 < length c) × ((cell c 0).1 ≡ true)
-    × Goes (IsKept {A = A}) shown moved 0 (v, (nib may_write (suc (suc n)) 0, None)) (λ m. either (m == 0) 0 m) (Adds (step 0 0 0 (Some x)) (v, (nib may_write (suc (suc n)) 0, None))) c log in
+    × Goes (AreFilled {A = A}) shown moved 0 (v, (nib may_write (suc (suc n)) 0, None)) (λ m. either (m == 0) 0 m) (Adds (step 0 0 0 (Some x)) (v, (nib may_write (suc (suc n)) 0, None))) c log in
     subst P (sym kept.whole) (λ left. (omega arith, refl, adds_goes kept.rest log v x n size pre (at_the_end kept.rest log v n (suc (length kept.rest)) kept.full kept.bare left))) (away refl)
 
 -- whatever the cells are, no entry is beyond the pen's cell
 pub looks_moves : {A : Type 0} (v : List (Option A)) (e : Option A) (n : ℕ)
-    → Moves IsKept shown moved 0 (v, (nib may_write (suc (suc n)) 0, None)) (λ m. either (m == 0) 0 m) (Looks (step 0 0 0 e) (v, (nib may_write (suc (suc n)) 0, None)))
+    → Moves AreFilled shown moved 0 (v, (nib may_write (suc (suc n)) 0, None)) (λ m. either (m == 0) 0 m) (Looks (step 0 0 0 e) (v, (nib may_write (suc (suc n)) 0, None)))
 looks_moves {A = A} v e n cs log kept pre away =
     let P : List Cell → Type 0 = λ c. (suc (suc n) < length c) × ((cell c (suc (suc n))).1 ≡ false) → (0 < length c) × ((cell c 0).1 ≡ true)
-    × Goes (IsKept {A = A}) shown moved 0 (v, (nib may_write (suc (suc n)) 0, None)) (λ m. either (m == 0) 0 m) (Looks (step 0 0 0 e) (v, (nib may_write (suc (suc n)) 0, None))) c log in
+    × Goes (AreFilled {A = A}) shown moved 0 (v, (nib may_write (suc (suc n)) 0, None)) (λ m. either (m == 0) 0 m) (Looks (step 0 0 0 e) (v, (nib may_write (suc (suc n)) 0, None))) c log in
     subst P (sym kept.whole) (λ left. (
       omega arith,
       refl,

@@ -11,7 +11,7 @@ entries_in (None ∷ log) = entries_in log
 entries_in (Some x ∷ log) = x ∷ entries_in log
 
 -- The first cell has the number of cells. The second is spare, and behind it each entry has a cell that is full; no cell behind these is full
-pub record IsKept {A : Type 0} (cells : List Cell) (log : List (Option A)) : Type 0 where
+pub record AreFilled {A : Type 0} (cells : List Cell) (log : List (Option A)) : Type 0 where
   pub rest : List Cell
   pub whole : cells ≡ (suc (length rest), true) ∷ rest
   pub full : (j : ℕ) → j < length (entries_in log) → (cell rest (suc j)).1 ≡ true

@@ -62,12 +62,22 @@ amount_of (Member23 own) = own.share.amount
 -- the number of each member's entries, as the journal has it
 abbrev pub totals : {T : Type 0} → Books T → List ℕ
 totals b =
-    b.c0.book.total ∷ b.c1.book.total ∷ b.c2.book.total ∷ b.c3.book.total ∷ b.c4.book.total ∷ b.c5.book.total ∷ b.c6.book.total ∷ b.c7.book.total ∷ b.c8.book.total ∷ b.c9.book.total ∷ b.c10.book.total ∷ b.c11.book.total ∷ b.c12.book.total ∷ b.c13.book.total ∷ b.c14.book.total ∷ b.c15.book.total ∷ b.c16.book.total ∷ b.c17.book.total ∷ b.c18.book.total ∷ b.c19.book.total ∷ b.c20.book.total ∷ b.c21.book.total ∷ b.c22.book.total ∷ b.c23.book.total ∷ []
+    b.c0.book.total ∷ b.c1.book.total ∷ b.c2.book.total ∷ b.c3.book.total
+    ∷ b.c4.book.total ∷ b.c5.book.total ∷ b.c6.book.total ∷ b.c7.book.total
+    ∷ b.c8.book.total ∷ b.c9.book.total ∷ b.c10.book.total ∷ b.c11.book.total
+    ∷ b.c12.book.total ∷ b.c13.book.total ∷ b.c14.book.total ∷ b.c15.book.total
+    ∷ b.c16.book.total ∷ b.c17.book.total ∷ b.c18.book.total ∷ b.c19.book.total
+    ∷ b.c20.book.total ∷ b.c21.book.total ∷ b.c22.book.total ∷ b.c23.book.total ∷ []
 
 -- what the ledgers are called
 abbrev pub names_of : Blanks → List ℕ
 names_of b =
-    b.c0.blank.name ∷ b.c1.blank.name ∷ b.c2.blank.name ∷ b.c3.blank.name ∷ b.c4.blank.name ∷ b.c5.blank.name ∷ b.c6.blank.name ∷ b.c7.blank.name ∷ b.c8.blank.name ∷ b.c9.blank.name ∷ b.c10.blank.name ∷ b.c11.blank.name ∷ b.c12.blank.name ∷ b.c13.blank.name ∷ b.c14.blank.name ∷ b.c15.blank.name ∷ b.c16.blank.name ∷ b.c17.blank.name ∷ b.c18.blank.name ∷ b.c19.blank.name ∷ b.c20.blank.name ∷ b.c21.blank.name ∷ b.c22.blank.name ∷ b.c23.blank.name ∷ []
+    b.c0.blank.name ∷ b.c1.blank.name ∷ b.c2.blank.name ∷ b.c3.blank.name
+    ∷ b.c4.blank.name ∷ b.c5.blank.name ∷ b.c6.blank.name ∷ b.c7.blank.name
+    ∷ b.c8.blank.name ∷ b.c9.blank.name ∷ b.c10.blank.name ∷ b.c11.blank.name
+    ∷ b.c12.blank.name ∷ b.c13.blank.name ∷ b.c14.blank.name ∷ b.c15.blank.name
+    ∷ b.c16.blank.name ∷ b.c17.blank.name ∷ b.c18.blank.name ∷ b.c19.blank.name
+    ∷ b.c20.blank.name ∷ b.c21.blank.name ∷ b.c22.blank.name ∷ b.c23.blank.name ∷ []
 
 -- each ledger is called what the function says
 abbrev pub AreCalled : Blanks → (ℕ → ℕ) → Type 0

@@ -19,7 +19,8 @@ pub record IsOpen {A : Type 0} (left : ℕ) (past : List (A × ℕ)) : Type 0 wh
   pub whole : past ≡ front ++ last ∷ []
   pub within : (i : ℕ) → bit_at left i ≡ 1 → bit_at last.1 i ≡ 1
 
--- the journal's entries are listed, each fills a cell, and the totals are the numbers of the entries that name each member, but for those that are still to be entered. A member was told only where the first cause is the store
+-- the journal's entries are listed, each fills a cell, and the totals are the numbers of the entries that name each member, but for those that are still to be entered.
+-- A member was told only where the first cause is the store
 pub record Journals {A : Type 0} (entries : List A) (full : ℕ) (past : List (A × ℕ)) (totals : List ℕ) (room : ℕ) (left : Option ℕ) (told : ℕ) (stopped : Option StopCause) : Type 0 where
   pub listed : entries ≡ entries_of past
   pub filled : full ≡ length past

@@ -4,4 +4,5 @@ pub mod Members
 pub mod Views
 pub mod Holds
 pub mod Faults
-pub mod Rows
+pub mod NewMembers
+pub mod Grounds

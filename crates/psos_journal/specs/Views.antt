@@ -8,7 +8,7 @@ use Rattle.logbook.specs.Pages.{Book}
 use Rattle.psos_journal.specs.Members.{named}
 
 -- the entries with their names, the limit on them, the number of members, the first cause of a stop, and, where a pen is open, the bits of the members that are still to be entered
-pub record Kept (A : Type 0) : Type 0 where
+pub record JournalState (A : Type 0) : Type 0 where
   pub entries : List (A × ℕ)
   pub room : ℕ
   pub members : ℕ

@@ -3,37 +3,37 @@ ghost use Rattle.std.specs.Prelude.{◌≡◌, ◌+◌, slice_index, slice_set};
 ghost use Rattle.psos_journal.specs.Counts.{number_of, amount_of, totals};
 
 use crate::count_of::CountOf;
-use crate::kept::Kept;
+use crate::journal_count::JournalCount;
 use crate::mark::Mark;
 use crate::names::Names;
 
 /// The number of the entries of each of 24 members, as the journal keeps it.
 #[derive(Drop)]
 pub(crate) struct Books<T: Names> {
-    pub(crate) c0: Kept<CountOf<T, 0>>,
-    pub(crate) c1: Kept<CountOf<T, 1>>,
-    pub(crate) c2: Kept<CountOf<T, 2>>,
-    pub(crate) c3: Kept<CountOf<T, 3>>,
-    pub(crate) c4: Kept<CountOf<T, 4>>,
-    pub(crate) c5: Kept<CountOf<T, 5>>,
-    pub(crate) c6: Kept<CountOf<T, 6>>,
-    pub(crate) c7: Kept<CountOf<T, 7>>,
-    pub(crate) c8: Kept<CountOf<T, 8>>,
-    pub(crate) c9: Kept<CountOf<T, 9>>,
-    pub(crate) c10: Kept<CountOf<T, 10>>,
-    pub(crate) c11: Kept<CountOf<T, 11>>,
-    pub(crate) c12: Kept<CountOf<T, 12>>,
-    pub(crate) c13: Kept<CountOf<T, 13>>,
-    pub(crate) c14: Kept<CountOf<T, 14>>,
-    pub(crate) c15: Kept<CountOf<T, 15>>,
-    pub(crate) c16: Kept<CountOf<T, 16>>,
-    pub(crate) c17: Kept<CountOf<T, 17>>,
-    pub(crate) c18: Kept<CountOf<T, 18>>,
-    pub(crate) c19: Kept<CountOf<T, 19>>,
-    pub(crate) c20: Kept<CountOf<T, 20>>,
-    pub(crate) c21: Kept<CountOf<T, 21>>,
-    pub(crate) c22: Kept<CountOf<T, 22>>,
-    pub(crate) c23: Kept<CountOf<T, 23>>,
+    pub(crate) c0: JournalCount<CountOf<T, 0>>,
+    pub(crate) c1: JournalCount<CountOf<T, 1>>,
+    pub(crate) c2: JournalCount<CountOf<T, 2>>,
+    pub(crate) c3: JournalCount<CountOf<T, 3>>,
+    pub(crate) c4: JournalCount<CountOf<T, 4>>,
+    pub(crate) c5: JournalCount<CountOf<T, 5>>,
+    pub(crate) c6: JournalCount<CountOf<T, 6>>,
+    pub(crate) c7: JournalCount<CountOf<T, 7>>,
+    pub(crate) c8: JournalCount<CountOf<T, 8>>,
+    pub(crate) c9: JournalCount<CountOf<T, 9>>,
+    pub(crate) c10: JournalCount<CountOf<T, 10>>,
+    pub(crate) c11: JournalCount<CountOf<T, 11>>,
+    pub(crate) c12: JournalCount<CountOf<T, 12>>,
+    pub(crate) c13: JournalCount<CountOf<T, 13>>,
+    pub(crate) c14: JournalCount<CountOf<T, 14>>,
+    pub(crate) c15: JournalCount<CountOf<T, 15>>,
+    pub(crate) c16: JournalCount<CountOf<T, 16>>,
+    pub(crate) c17: JournalCount<CountOf<T, 17>>,
+    pub(crate) c18: JournalCount<CountOf<T, 18>>,
+    pub(crate) c19: JournalCount<CountOf<T, 19>>,
+    pub(crate) c20: JournalCount<CountOf<T, 20>>,
+    pub(crate) c21: JournalCount<CountOf<T, 21>>,
+    pub(crate) c22: JournalCount<CountOf<T, 22>>,
+    pub(crate) c23: JournalCount<CountOf<T, 23>>,
 }
 
 impl<T: Names> Books<T> {

@@ -33,7 +33,7 @@ impl<E> Entries<E> {
         }
     }
 
-    /// One more entry at the end. A refusal is for memory, hands the entry back and changes nothing.
+    /// One more entry at the end. `Err` only where memory runs out: it has the entry, and the entries are unchanged.
     pub fn push(&mut self, entry: E) -> Result<(), E>
         requires { length self.old + 1 < 2 ^ 32 }
         ensures ok { OnOk result (self.new ≡ self.old ++ entry ∷ []) }

@@ -26,22 +26,21 @@ pub struct Ground<E> {
 }
 
 impl<E> Model for Ground<E> {
-    ghost use Rattle.std.specs.Prelude.{◌≡◌, suc, ◌≤◌, [], length};
-    ghost use Rattle.logbook.specs.Pages.{nib, may_write};
-    ghost use Rattle.psos_journal.specs.Cells.{count_word, entries_in};
     ghost use Rattle.psos_journal.specs.Counts.{names_of};
+    ghost use Rattle.psos_journal.specs.Grounds.{IsNotBegun, IsWithinLimits};
     ghost use Rattle.psos_journal.specs.Views.{Ready};
 
     ghost Value = { Ready };
 
     ghost view = { λ g. record { members = g.members; room = g.room; book = g.seen.book; counts = names_of g.counts; told = g.told.name; faults = g.faults.name } };
 
-    ghost invariant = { λ g. (g.count ≡ count_word g.seen.book) × (g.next.book ≡ g.seen.book) × (g.next.nib ≡ nib may_write (suc (suc 0)) 0) × (entries_in g.seen.log ≡ []) × (g.told.parts ≡ 24) × (g.faults.parts ≡ 1) × (g.members ≤ 24) × (g.room ≤ 32768) };
+    ghost invariant = { λ g. IsNotBegun g.count g.next.book g.next.nib g.seen.book g.seen.log × IsWithinLimits g.told.parts g.faults.parts g.members g.room };
 }
 
 impl<E> Ground<E> {
     /// The ground of a journal of so many members, that takes so many entries. Its cells are made one
-    /// by one as entries come, so nothing is allocated here but the first.
+    /// by one as entries come, so the first alone is made here, and takes nothing of `_alloc`. `Err` only
+    /// where memory runs out.
     pub fn new(_alloc: Global, members: u8, room: u32) -> Result<Ground<E>, AllocError>
         requires members { (1 ≤ members) × (members ≤ 24) }
         requires room { (1 ≤ room) × (room ≤ 32768) }

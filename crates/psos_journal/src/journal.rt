@@ -17,11 +17,11 @@ use crate::faults_of::FaultsOf;
 use crate::ground::Ground;
 use crate::member::Member;
 use crate::names::Names;
+use crate::new_members::NewMembers;
 use crate::opening::open_all;
 use crate::past::Past;
 use crate::pen::Pen;
 use crate::receipt::Receipt;
-use crate::row::Row;
 use crate::stop_cause::StopCause;
 use crate::tally::Tally;
 use crate::told_of::ToldOf;
@@ -48,11 +48,11 @@ pub struct Journal<T: Names, E> {
 }
 
 impl<T: Names, E> Model for Journal<T, E> {
-    ghost use Rattle.psos_journal.specs.Views.{Kept};
+    ghost use Rattle.psos_journal.specs.Views.{JournalState};
     ghost use Rattle.psos_journal.specs.Counts.{totals};
     ghost use Rattle.psos_journal.specs.Holds.{Journals};
 
-    ghost Value = { Kept E };
+    ghost Value = { JournalState E };
 
     ghost view = { λ j. record { entries = j.past; room = j.room; members = j.members; stopped = j.stopped; left = j.left } };
 
@@ -60,9 +60,9 @@ impl<T: Names, E> Model for Journal<T, E> {
 }
 
 impl<T: Names, E> Journal<T, E> {
-    /// Takes an entry and the members that it names, and gives the pen with which it is entered. A
-    /// fault hands the entry back and changes nothing. It is for a stop exactly where `stop` was called,
-    /// and else for want of memory.
+    /// Takes an entry and the members that it names, and gives the pen with which it is entered. `Err`
+    /// exactly where `stop` was called, and else only where memory runs out: it has the entry, and the
+    /// journal is unchanged. Cells take no memory of `_alloc`; entries take it from that of `start`.
     pub fn begin(&mut self, _alloc: Global, entry: E, names: u64) -> Result<Pen<T>, BeginFault<E>>
         requires names { names < 2 ^ self.old.members }
         requires room { length self.old.entries < self.old.room }
@@ -116,6 +116,7 @@ impl<T: Names, E> Journal<T, E> {
         ensures stamp { result + 1 ≡ length self.new.entries }
         ensures journal { self.new ≡ record self.old { left = None } }
     {
+        // The pen is spent.
         let _ = pen;
         self.left = None;
         self.cells.len() - 1
@@ -182,7 +183,7 @@ impl<T: Names, E> Journal<T, E> {
     }
 
     /// The empty journal of a ground, its members in order, and the tally of store faults. Its names
-    /// have to be those of the ground.
+    /// have to be those of the ground. `Err` only where memory runs out: the ground goes.
     pub fn start(
         alloc: Global,
         ground: Ground<E>,
@@ -215,14 +216,14 @@ impl<T: Names, E> Journal<T, E> {
         };
         let (told, tales) = told.open::<ToldOf<T>>();
         let (book, share) = faults.open::<FaultsOf<T>>();
-        let mut row = Row {
+        let mut row = NewMembers {
             members: Vec::new(alloc),
             past: past.again(),
             tales,
             most: members,
         };
         let books = open_all(counts, &mut row)?;
-        let Row { members: all, .. } = row;
+        let NewMembers { members: all, .. } = row;
         let journal = Journal {
             entries: Entries::empty(alloc),
             past,

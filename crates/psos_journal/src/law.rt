@@ -7,9 +7,9 @@ pub struct Law;
 impl<E> Rule<Option<(E, u64)>, u64> for Law {
     ghost use Rattle.std.specs.Prelude.{[]};
     ghost use base.Fml.{ftrue};
-    ghost use Rattle.psos_journal.specs.Cells.{IsKept};
+    ghost use Rattle.psos_journal.specs.Cells.{AreFilled};
 
-    ghost holds = { λ cells log. IsKept cells log };
+    ghost holds = { λ cells log. AreFilled cells log };
 
     ghost first = { [] };
 

@@ -45,7 +45,8 @@ impl<T: Names, E> Member<T, E> {
         self.number
     }
 
-    /// Spare room for one entry. An entry takes no memory in a member, so this is never refused.
+    /// Spare room for one entry. An entry takes no memory in a member, so there is no `Err`, and
+    /// `_alloc` is for members that keep their entries themselves.
     pub fn room(&mut self, _alloc: Global) -> Result<(), AllocError>
         ensures always { IsOk result }
         ensures same { self.new ≡ self.old }

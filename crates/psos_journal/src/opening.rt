@@ -1,14 +1,14 @@
 // The ledgers of a journal that starts.
 ghost use Rattle.std.specs.Prelude.{◌≡◌, IfOk, OnOk, replicate};
 ghost use Rattle.psos_journal.specs.Counts.{AreCalled, totals};
-ghost use Rattle.psos_journal.specs.Rows.{Rows};
+ghost use Rattle.psos_journal.specs.NewMembers.{AreNewMembers};
 
 use crate::blanks::Blanks;
 use crate::books::Books;
-use crate::kept::Kept;
+use crate::journal_count::JournalCount;
 use crate::mark::Mark;
 use crate::names::Names;
-use crate::row::Row;
+use crate::new_members::NewMembers;
 use std::alloc::AllocError;
 
 // Opens each ledger, and makes its member.
@@ -16,7 +16,7 @@ macro_rules! opened {
     ($counts:ident, $row:ident; $($count:ident $number:literal $mark:ident),*) => {{
         let Blanks { $($count),* } = $counts;
         $(
-            let ($count, own) = Kept::open($count);
+            let ($count, own) = JournalCount::open($count);
             $row.add($number, Mark::$mark(own))?;
         )*
         Ok(Books { $($count),* })
@@ -26,12 +26,12 @@ macro_rules! opened {
 // Opens the ledgers of the members' counts under their names, and makes the members.
 pub(crate) fn open_all<T: Names, E>(
     counts: Blanks,
-    row: &mut Row<T, E>,
+    row: &mut NewMembers<T, E>,
 ) -> Result<Books<T>, AllocError>
     requires names { AreCalled counts T.counts }
-    requires row { Rows 0 row.old.most row.old.tales.parts row.old.tales.amount row.old.members.items row.old.past }
+    requires row { AreNewMembers 0 row.old.most row.old.tales.parts row.old.tales.amount row.old.members.items row.old.past }
     ensures totals { IfOk result (λ b. totals b ≡ replicate 24 0) }
-    ensures row { OnOk result ((row.new.most ≡ row.old.most) × Rows 24 row.new.most row.new.tales.parts row.new.tales.amount row.new.members.items row.new.past) }
+    ensures row { OnOk result ((row.new.most ≡ row.old.most) × AreNewMembers 24 row.new.most row.new.tales.parts row.new.tales.amount row.new.members.items row.new.past) }
 {
     opened!(
         counts, row;

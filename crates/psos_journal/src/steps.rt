@@ -73,6 +73,7 @@ pub(crate) fn look<E>(
     let mut offer: Offer<Option<(E, u64)>, u64, Law, Nothing> = seen.plain::<Nothing, (), Look>(
         &(),
     );
+    // The contract speaks of it, and the steps read the count from the pen.
     let _ = full;
     count.compare_exchange::<Look, Nothing>(0, 0, seen, &mut offer, pen);
 }

@@ -2,7 +2,5 @@
 #![tactic(auto)]
 
 mod life;
-#[cfg(test)]
-mod tests;
 
 pub use life::Life;

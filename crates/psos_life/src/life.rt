@@ -31,7 +31,7 @@ impl Model for Life {
 }
 
 impl Life {
-    /// No user object. It takes no memory.
+    /// No user object. It takes no memory, so there is no `Err`.
     pub fn new(alloc: Global) -> Result<Life, AllocError>
         ensures { result ≡ Ok empty }
     {
@@ -54,8 +54,9 @@ impl Life {
     }
 
     /// Makes a call of level 11 (docs/levels.md, "Calls"): what it leaves and answers are those of `act11`. A refusal
-    /// is an answer, and changes nothing; so is `Done` to a call of another level. `Memory` is the one fault,
-    /// of `Enrol` alone, and the level is then as it was.
+    /// is the answer `No`, and changes nothing; a call of another level is answered with `Done`. `Err` only where memory
+    /// runs out, in `Enrol` alone: the level is unchanged. Rows take their memory from the allocator of `new`;
+    /// `_alloc` stands there since the calls of all levels have one form.
     pub fn act(&mut self, _alloc: Global, call: &LevelCall) -> Result<LevelAnswer, LevelFault>
         requires { Can11 self.old call.now }
         ensures state { OnOk result (self.new ≡ (act11 self.old call.now).0) }

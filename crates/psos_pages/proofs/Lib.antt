@@ -1,3 +1,2 @@
 pub mod SlotStates
-pub mod Tested
 pub mod WordWriting

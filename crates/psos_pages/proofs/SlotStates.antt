@@ -6,7 +6,7 @@ use Rattle.std.proofs.Math.Nat.{eq-or-lt_of_le}
 use Rattle.psos_words.specs.declared.word.Word.{Word}
 use Rattle.psos_store.specs.Slots.{least_free}
 use Rattle.psos_calls.specs.Levels.Level7.{Pages, IsTaken, first_free, slot_words, words_in}
-use Rattle.psos_pages.specs.Kept.{slots_of, slot_with, AreThere}
+use Rattle.psos_pages.specs.SlotViews.{slots_of, slot_with, AreThere}
 
 -- ---- what is seen
 

@@ -2,8 +2,6 @@
 #![tactic(auto)]
 
 mod pages;
-#[cfg(test)]
-mod tests;
 mod words;
 
 pub use pages::Pages;

@@ -25,7 +25,7 @@ pub struct Pages<B: Store> {
 impl<B: Store> Model for Pages<B> {
     ghost use Rattle.std.specs.Prelude.{◌≤◌, vec_capacity};
     ghost use Rattle.psos_pages.specs.State.{PagesState};
-    ghost use Rattle.psos_pages.specs.Kept.{AreThere, slots_of};
+    ghost use Rattle.psos_pages.specs.SlotViews.{AreThere, slots_of};
 
     ghost Value = { PagesState B };
 
@@ -35,14 +35,15 @@ impl<B: Store> Model for Pages<B> {
 }
 
 impl<B: Store> Pages<B> {
-    /// All slots free, over this store, with a number of frames from 8 to 256. All memory is taken here, and a refusal is
-    /// for memory. The number of frames has no effect today, and no call of the store is made.
+    /// All slots free, over this store, with a number of frames from 8 to 256. All memory is taken here. `Err` only where
+    /// memory runs out: the store goes. The number of frames has no effect today, and no call of the store is made.
     pub fn new(alloc: Global, frames: u16, store: B) -> Result<Pages<B>, AllocError>
         requires least { 8 ≤ frames }
         requires most { frames ≤ 256 }
         ensures free { IfOk result (λ p. p.slots ≡ replicate 521 None) }
         ensures store { IfOk result (λ p. p.store ≡ store) }
     {
+        // Frames come with paging: until then all pages lie in memory.
         let _frames = frames;
         Ok(Pages {
             taken: Slots::new(alloc),
@@ -136,15 +137,16 @@ impl<B: Store> Pages<B> {
     }
 
     /// Makes a call of level 7 (docs/levels.md, "Calls"): the state and the answer after it are those of its definition. The
-    /// call's condition holds; a call of another level does nothing and is answered with `Done`. It takes no memory.
+    /// call's condition holds; a call of another level does nothing and is answered with `Done`. It takes no memory:
+    /// `_alloc` stands there since the calls of all levels have one form.
     ///
-    /// The one fault is `Store`, only where the store's count of faults rose in the call, and it leaves the slots as they
-    /// were. Today no call of the store is made, and it stays as it is.
+    /// `Err` only where the store's count of faults rose in the call, and it is `Store`: the slots are unchanged. Today
+    /// no call of the store is made, and it stays as it is.
     pub fn act(&mut self, _alloc: Global, call: &LevelCall) -> Result<LevelAnswer, LevelFault>
         requires { Can7 self.old.slots call.now }
         ensures done { IfOk result (λ answer. (self.new.slots, answer) ≡ act7 self.old.slots call.now) }
         ensures fault { IfErr result (λ fault. fault ≡ LevelFault.Store) }
-        ensures kept { OnErr result (self.new.slots ≡ self.old.slots) }
+        ensures unchanged { OnErr result (self.new.slots ≡ self.old.slots) }
         ensures cause { HasCause (B.faults self.old.store) (B.faults self.new.store) result }
         ensures untouched { self.new.store ≡ self.old.store }
     {

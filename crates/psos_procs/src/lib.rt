@@ -5,8 +5,6 @@ mod laws;
 mod mailbox;
 mod name_space;
 mod procs;
-#[cfg(test)]
-mod tests;
 
 pub use laws::mailboxes_are_parts;
 pub use mailbox::Mailbox;

@@ -53,8 +53,8 @@ impl Mailbox {
 
     /// Makes a call of level 12 on this mailbox alone (docs/levels.md, "Calls"): what it leaves and answers are those
     /// of `act_box`, and so of `act12` (`mailboxes_are_parts`). The call's part is this mailbox (`has_part`): it names
-    /// this mailbox's process, or no process at all and this mailbox is that of user 0. A refusal is an answer, and
-    /// changes nothing. Calls of other levels do nothing here and answer `Done`. It takes no memory.
+    /// this mailbox's process, or no process at all and this mailbox is that of user 0. A refusal is the answer
+    /// `No`, and changes nothing. Calls of other levels do nothing here and answer `Done`. It takes no memory.
     pub fn act(&mut self, call: &LevelCall) -> LevelAnswer
         requires { part_of self.old.users call.now ≡ self.old.number }
         ensures row { (self.new.words, result) ≡ act_box (process_of self.old.number) self.old.words call.now }

@@ -5,7 +5,8 @@ use psos_calls::{Path, Refusal, Tab, limits};
 use psos_caps::Cap;
 
 /// A directory goes last into a name space. `exhausted path` exactly where it holds four, and then it stays as it is
-/// (docs/system.md, "Limits"). It takes no memory.
+/// (docs/system.md, "Limits"). It takes no memory. No level and no plan calls it: the plan of `path` makes the test, and
+/// the close of its request adds the directory. Here both are one step, for who has a name space by itself.
 pub fn path_push(path: &mut Path, cap: Cap) -> Result<(), Refusal>
     ensures room { IsOk result ↔ (length path.old < 4) }
     ensures ok { OnOk result (path.new ≡ path.old ++ cap ∷ []) }

@@ -34,7 +34,7 @@ impl Model for Procs {
 }
 
 impl Procs {
-    /// An empty mailbox for each user (docs/system.md, "Boot"). A refusal is for memory.
+    /// An empty mailbox for each user (docs/system.md, "Boot"). `Err` only where memory runs out.
     pub fn new(alloc: Global, users: u8) -> Result<Procs, AllocError>
         requires some { 1 ≤ users }
         requires few { users ≤ 8 }
@@ -48,8 +48,9 @@ impl Procs {
     }
 
     /// Makes a call of level 12 (docs/levels.md, "Calls"): what it leaves and answers are those of `act12`. A refusal
-    /// is an answer, and changes nothing. It answers as `act12` does also where the call's condition does not hold:
-    /// calls of other levels do nothing here and answer `Done`. There is no fault, and it takes no memory.
+    /// is the answer `No`, and changes nothing. It answers as `act12` does also where the call's condition does not
+    /// hold: calls of other levels do nothing here and answer `Done`. It takes no memory, so there is no `Err`; `_alloc`
+    /// and the result stand there since the calls of all levels have one form.
     #[inline(never)]
     pub fn act(&mut self, _alloc: Global, call: &LevelCall) -> Result<LevelAnswer, LevelFault>
         ensures made { IfOk result (λ answer. (self.new, answer) ≡ act12 self.old call.now) }
@@ -69,7 +70,8 @@ impl Procs {
         }
     }
 
-    /// The mailboxes, in the order of users. A refusal would consume them; there is none, and it takes no memory.
+    /// The mailboxes, in the order of users. It takes no memory, so there is no `Err`; `_alloc` and the
+    /// result are for mailboxes that do not lie in one list.
     pub fn split(self, _alloc: Global) -> Result<Vec<Mailbox>, AllocError>
         ensures always { IsOk result }
         ensures all { IfOk result (λ boxes. AreMailboxes boxes.items) }

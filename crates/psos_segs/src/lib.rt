@@ -3,8 +3,6 @@
 
 mod over;
 mod segs;
-#[cfg(test)]
-mod tests;
 mod view;
 
 pub use segs::Segs;

@@ -73,8 +73,9 @@ impl Segs {
     }
 
     /// Makes a call of level 8, where its condition holds: `Locate`, `SlotOf`, `SegMake`, `SegGone`, `WinRoom`,
-    /// `WinMake` or `Length` (docs/levels.md, "Calls"). A refusal is the answer `No` and changes nothing. An `Err` is
-    /// for memory, which only `SegMake` and `WinMake` take; it leaves the level as it was.
+    /// `WinMake` or `Length` (docs/levels.md, "Calls"). A refusal is the answer `No` and changes nothing. `Err` only
+    /// where memory runs out, in `SegMake` and `WinMake` alone: the level is unchanged. Rows take their memory from the
+    /// allocator of `new`; `_alloc` stands there since the calls of all levels have one form.
     pub fn act(&mut self, _alloc: Global, call: &LevelCall) -> Result<LevelAnswer, LevelFault>
         requires { Can8 self.old call.now }
         ensures ok { IfOk result (λ answer. (self.new, answer) ≡ act8 self.old call.now) }
@@ -203,7 +204,7 @@ impl Segs {
         }
     }
 
-    // A new segment. A refusal is for memory, and changes nothing.
+    // A new segment. `Err` only where memory runs out: the level is unchanged.
     fn make(&mut self, uid: Uid, row: SegRow) -> Result<(), AllocError>
         requires slot { row.slot < 521 }
         requires len { row.len ≤ 512 }
@@ -244,7 +245,7 @@ impl Segs {
         LevelAnswer::Done
     }
 
-    // A new window, where there is room for it. A refusal is for memory, and changes nothing.
+    // A new window, where there is room for it. `Err` only where memory runs out: the level is unchanged.
     fn make_window(&mut self, uid: Uid, cap: Cap, base: u64, len: u64) -> Result<(), AllocError>
         requires new { at self.old.windows uid.0 ≡ None }
         requires room { win_room self.old cap base len ≡ LevelAnswer.Done }
@@ -300,6 +301,6 @@ fn done(added: Result<(), AllocError>) -> Result<LevelAnswer, LevelFault>
 {
     match added {
         Ok(()) => Ok(LevelAnswer::Done),
-        Err(refusal) => Err(LevelFault::Memory(refusal)),
+        Err(error) => Err(LevelFault::Memory(error)),
     }
 }

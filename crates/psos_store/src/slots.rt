@@ -26,7 +26,7 @@ impl Model for Slots {
 }
 
 impl Slots {
-    /// All slots free. It takes no memory.
+    /// All slots free. It takes no memory: `_alloc` is for slots that do not lie in the value itself.
     pub fn new(_alloc: Global) -> Slots
         ensures { result ≡ replicate 521 false }
     {
@@ -62,7 +62,7 @@ impl Slots {
         ensures least { IfSome result (λ slot. slot ≡ least_free self.old) }
         ensures none { IsNone result ↔ (least_free self.old ≡ 521) }
         ensures taken { OnSome result (self.new ≡ slice_set self.old (least_free self.old) true) }
-        ensures kept { IsNone result → self.new ≡ self.old }
+        ensures unchanged { IsNone result → self.new ≡ self.old }
         ensures all { length self.old ≡ 521 }
     {
         let slot = self.least();

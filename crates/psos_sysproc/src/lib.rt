@@ -8,8 +8,6 @@ mod held;
 mod holding;
 mod order;
 mod table;
-#[cfg(test)]
-mod tests;
 mod turns;
 mod want;
 

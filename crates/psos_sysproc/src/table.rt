@@ -27,7 +27,7 @@ impl Model for Table {
 }
 
 impl Table {
-    /// So many users, who hold nothing. A refusal is for memory.
+    /// So many users, who hold nothing. `Err` only where memory runs out.
     pub fn new(alloc: Global, users: u8) -> Result<Table, AllocError>
         ensures { IfOk result (λ table. table ≡ replicate users []) }
     {

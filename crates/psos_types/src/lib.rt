@@ -2,8 +2,6 @@
 #![tactic(auto)]
 
 mod by_type;
-#[cfg(test)]
-mod tests;
 mod types;
 
 pub use types::Types;

@@ -36,7 +36,7 @@ impl Model for Types {
 }
 
 impl Types {
-    /// No type, object or directory. It takes no memory.
+    /// No type, object or directory. It takes no memory, so there is no `Err`.
     pub fn new(alloc: Global) -> Result<Types, AllocError>
         ensures { result ≡ Ok (record { types = empty; objects = empty }) }
     {
@@ -126,8 +126,9 @@ impl Types {
     }
 
     /// Makes a call of level 9 (docs/levels.md, "Calls"): what it leaves and answers are those of `act9`. A refusal
-    /// is an answer, and changes nothing; so is `Done` to a call of another level. `Memory` is the one fault,
-    /// of `TypeMake` and `ObjMake` alone, and the level is then as it was.
+    /// is the answer `No`, and changes nothing; a call of another level is answered with `Done`. `Err` only where memory
+    /// runs out, in `TypeMake` and `ObjMake` alone: the level is unchanged. Rows take their memory from the allocator of `new`;
+    /// `_alloc` stands there since the calls of all levels have one form.
     pub fn act(&mut self, _alloc: Global, call: &LevelCall) -> Result<LevelAnswer, LevelFault>
         requires { Can9 self.old call.now }
         ensures state { OnOk result (self.new ≡ (act9 self.old call.now).0) }

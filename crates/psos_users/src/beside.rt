@@ -9,7 +9,7 @@ use std::thread::Threads;
 /// Calls `phase` of each work once, and returns when all calls have returned.
 ///
 /// At most as many threads as there are works make the calls, the caller's thread among them. Where no thread can be
-/// made, the calls come one after another; nothing is refused. It returns only if each call does, so it waits where a
+/// made, the calls come one after another, and none is left out. It returns only if each call does, so it waits where a
 /// work waits (docs/levels.md, "Phases").
 pub fn one_phase<R: Threads + Sync, C: Sync, W: Work<C>>(
     rt: &R,

@@ -1,7 +1,7 @@
 use Rattle.std.proofs.Common.{◌≡◌, length, slice_index, arith, ap, ◌∙◌, subst, None}
 use Rattle.psos_journal.specs.Counts.{number_of, amount_of, totals}
 use Rattle.psos_journal.specs.Members.{named}
-use Rattle.psos_journal.specs.Views.{Kept}
+use Rattle.psos_journal.specs.Views.{JournalState}
 use Rattle.psos_journal.specs.Holds.{Journals}
 use Rattle.psos_journal.proofs.MemberEntries.{same_named}
 use Rattle.psos_journal.proofs.JournalInvariant.{compared}
@@ -17,7 +17,7 @@ pub returns-clause-meets : goal.returns-clause-meets
 returns-clause-meets g c =
     let j = c.self.inside in
     let m = c.member.inside in
-    let none : j.left ≡ None = ap (λ (k : Kept g.row.E.Denot). k.left) c.self.view_is ∙ c.requires.spent in
+    let none : j.left ≡ None = ap (λ (k : JournalState g.row.E.Denot). k.left) c.self.view_is ∙ c.requires.spent in
     let spent = subst (λ l. Journals j.entries j.cells j.past (totals j.books) j.room l j.told.total j.stopped) none c.self.invariant in
     let here = spent.counts m.number c.member.invariant.some_member in
     let as_many : length (named m.number m.past) ≡ length (named m.number j.past) =

@@ -3,7 +3,7 @@ use Rattle.std.specs.Prelude.{is_some}
 use Rattle.psos_store.specs.Slots.{least_free}
 use Rattle.psos_words.specs.Words.{zeros}
 use Rattle.psos_calls.specs.Levels.Level7.{first_free}
-use Rattle.psos_pages.specs.Kept.{slots_of}
+use Rattle.psos_pages.specs.SlotViews.{slots_of}
 use Rattle.psos_pages.proofs.SlotStates.{first_free-slots, length-slots, slots-take, slots-push, there-push, free-next}
 use Rattle.psos_pages.proofs.pages.Pages.take.Goals as goal
 
