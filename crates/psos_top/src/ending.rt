@@ -14,7 +14,7 @@ use psos_core::Levels;
 use psos_io::{Sink, Store, put_all};
 use psos_journal::Entries;
 use psos_print::{PrintFault, done_line, put_transcript};
-use psos_script::{ScriptFault, put_cause};
+use psos_script::ScriptFault;
 use psos_text::put_number;
 use std::alloc::{AllocError, Global};
 
@@ -81,7 +81,7 @@ fn fault_text(alloc: Global, fault: ScriptFault) -> Result<Vec<u8>, AllocError>
     text.extend_from_slice(b"line ")?;
     put_number(alloc, &mut text, fault.line as u64)?;
     text.extend_from_slice(b": ")?;
-    put_cause(alloc, &mut text, fault.cause)?;
+    text.extend_from_slice(fault.cause.text())?;
     text.extend_from_slice(b"\n")?;
     Ok(text)
 }
