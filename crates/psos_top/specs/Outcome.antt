@@ -12,7 +12,7 @@ use Rattle.psos_model.specs.Text.Transcript.{transcript}
 use Rattle.psos_model.specs.Text.Output.{output, printed}
 use Rattle.psos_print.specs.declared.fault.PrintFault.{PrintFault}
 use Rattle.psos_print.specs.declared.fault.PrintFault.TheVariants as faults
-use Rattle.psos_print.specs.Places.{entries_text}
+use Rattle.psos_print.specs.Positions.{entries_text}
 use Rattle.psos_script.specs.declared.cause.Cause.{Cause}
 use Rattle.psos_script.specs.Fault.{fault_of}
 use Rattle.psos_script.specs.CauseText.{cause_text}
