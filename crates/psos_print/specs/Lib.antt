@@ -1,3 +1,3 @@
 pub mod Line
 pub mod Pieces
-pub mod Places
+pub mod Positions

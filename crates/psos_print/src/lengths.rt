@@ -85,7 +85,7 @@ fn place_len(n: u16, m: u16) -> usize
 }
 
 /// How many bytes a line has as it is printed, with its end of line: what `put_line` appends for the same name and
-/// line. It takes no memory.
+/// line, and for which it takes memory before all else. It takes none itself.
 pub fn line_len(name: &Name, line: &Line) -> usize
     ensures { result ≡ length (line_text (name_text name.now) line.now.stamp (answered_in line.now)) }
 {

@@ -5,7 +5,7 @@ mod done;
 mod fault;
 mod lengths;
 mod line;
-mod places;
+mod positions;
 mod refusal;
 mod reply;
 mod transcript;
@@ -15,6 +15,3 @@ pub use fault::PrintFault;
 pub use lengths::line_len;
 pub use line::put_line;
 pub use transcript::put_transcript;
-
-#[cfg(test)]
-mod tests;

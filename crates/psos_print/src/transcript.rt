@@ -7,11 +7,11 @@ ghost use Rattle.psos_text.specs.Name.{name_text};
 ghost use Rattle.psos_model.specs.Replay.{answered_of};
 ghost use Rattle.psos_model.specs.Text.Transcript.{line_text, users_lines};
 ghost use Rattle.psos_print.specs.Pieces.{HasPut, HasBegun, HasReason};
-ghost use Rattle.psos_print.specs.Places.{entries_text, lines_at, HasPlaces};
+ghost use Rattle.psos_print.specs.Positions.{entries_text, lines_at, HasPositions};
 
 use crate::fault::PrintFault;
 use crate::line::put_parts;
-use crate::places::gather;
+use crate::positions::gather;
 use psos_calls::{Entry, Script, UserText};
 use psos_io::{Sink, put_all};
 use psos_journal::Entries;
@@ -40,17 +40,17 @@ fn write_piece<K: Sink>(piece: &mut Vec<u8>, out: &mut K) -> Result<(), PrintFau
 fn put_entry<K: Sink>(
     alloc: Global,
     name: &Name,
-    place: u32,
+    position: u32,
     entry: &Entry,
     piece: &mut Vec<u8>,
     out: &mut K,
 ) -> Result<(), PrintFault>
-    ensures ok { OnOk result (HasPut (K.took out.old) (K.took out.new) piece.old.items piece.new.items (line_text (name_text name.now) place (answered_of entry.now))) }
-    ensures err { OnErr result (HasBegun (K.took out.old) (K.took out.new) (piece.old.items ++ line_text (name_text name.now) place (answered_of entry.now))) }
+    ensures ok { OnOk result (HasPut (K.took out.old) (K.took out.new) piece.old.items piece.new.items (line_text (name_text name.now) position (answered_of entry.now))) }
+    ensures err { OnErr result (HasBegun (K.took out.old) (K.took out.new) (piece.old.items ++ line_text (name_text name.now) position (answered_of entry.now))) }
     ensures later { K.faults out.old ≤ K.faults out.new }
     ensures reason { IfErr result (HasReason (K.faults out.old) (K.faults out.new)) }
 {
-    let stamp = u64::from(place);
+    let stamp = u64::from(position);
     if put_parts(alloc, piece, name, entry.n, entry.m, stamp, &entry.reply).is_err() {
         return Err(PrintFault::Memory(AllocError));
     }
@@ -60,28 +60,35 @@ fn put_entry<K: Sink>(
     write_piece(piece, out)
 }
 
-// The lines of the entries at these places.
+// The lines of the entries at these positions.
 fn put_entries<K: Sink>(
     alloc: Global,
     name: &Name,
-    places: &[u32],
+    positions: &[u32],
     entries: &[Entry],
     piece: &mut Vec<u8>,
     out: &mut K,
 ) -> Result<(), PrintFault>
-    requires { AllByRecursion (λ p. p < length entries.now) places.now }
-    ensures ok { OnOk result (HasPut (K.took out.old) (K.took out.new) piece.old.items piece.new.items (lines_at (name_text name.now) entries.now places.now)) }
-    ensures err { OnErr result (HasBegun (K.took out.old) (K.took out.new) (piece.old.items ++ lines_at (name_text name.now) entries.now places.now)) }
+    requires { AllByRecursion (λ p. p < length entries.now) positions.now }
+    ensures ok { OnOk result (HasPut (K.took out.old) (K.took out.new) piece.old.items piece.new.items (lines_at (name_text name.now) entries.now positions.now)) }
+    ensures err { OnErr result (HasBegun (K.took out.old) (K.took out.new) (piece.old.items ++ lines_at (name_text name.now) entries.now positions.now)) }
     ensures later { K.faults out.old ≤ K.faults out.new }
     ensures reason { IfErr result (HasReason (K.faults out.old) (K.faults out.new)) }
 {
-    'places: for place in places {
-        put_entry(alloc, name, *place, &entries[*place as usize], piece, out)?;
+    'positions: for position in positions {
+        put_entry(
+            alloc,
+            name,
+            *position,
+            &entries[*position as usize],
+            piece,
+            out,
+        )?;
     }
     Ok(())
 }
 
-// The lines of each user, whose places stand in the list of the same number.
+// The lines of each user, whose positions stand in the list of the same number.
 fn put_users<K: Sink>(
     alloc: Global,
     users: &[UserText],
@@ -90,7 +97,7 @@ fn put_users<K: Sink>(
     piece: &mut Vec<u8>,
     out: &mut K,
 ) -> Result<(), PrintFault>
-    requires { HasPlaces (length users.now) (map (λ l. l.items) lists.now) entries.now }
+    requires { HasPositions (length users.now) (map (λ l. l.items) lists.now) entries.now }
     ensures ok { OnOk result (HasPut (K.took out.old) (K.took out.new) piece.old.items piece.new.items (users_lines users.now 0 (map answered_of entries.now))) }
     ensures err { OnErr result (HasBegun (K.took out.old) (K.took out.new) (piece.old.items ++ users_lines users.now 0 (map answered_of entries.now))) }
     ensures later { K.faults out.old ≤ K.faults out.new }

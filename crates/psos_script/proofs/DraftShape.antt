@@ -8,7 +8,7 @@ use Rattle.psos_calls.specs.Language.Request.{InRange}
 use Rattle.psos_calls.specs.Language.Script.{CodeBlock, UserScript, AreDistinct}
 use Rattle.psos_model.specs.Text.Operands.{Text}
 use Rattle.psos_model.specs.Text.Spelling.{requests_lines, code_lines, user_lines}
-use Rattle.psos_script.specs.Draft.{Read, Opened, NoneOpen, BodyOpen, UserOpen, open_codes, open_users}
+use Rattle.psos_script.specs.Draft.{Read, Pending, NonePending, BodyPending, UserPending, pending_codes, pending_users}
 
 abbrev pub label_of : CodeBlock → Text
 label_of c = c.label
@@ -18,15 +18,15 @@ named u = u.name
 
 -- ---- lines
 
--- the lines of the open part
-abbrev pub open_lines : List Text → Opened → List (List Text)
-open_lines labels NoneOpen = []
-open_lines labels (BodyOpen label body) = (codes "code" ∷ label ∷ []) ∷ requests_lines labels body
-open_lines labels (UserOpen name phases requests count) = user_lines labels (record { name = name; phases = phases ++ requests ∷ [] })
+-- the lines of the unfinished part
+abbrev pub pending_lines : List Text → Pending → List (List Text)
+pending_lines labels NonePending = []
+pending_lines labels (BodyPending label body) = (codes "code" ∷ label ∷ []) ∷ requests_lines labels body
+pending_lines labels (UserPending name phases requests count) = user_lines labels (record { name = name; phases = phases ++ requests ∷ [] })
 
 -- the lines of what is read
 abbrev pub read_lines : List Text → Read → List (List Text)
-read_lines labels d = flat_map (code_lines labels) d.codes ++ (flat_map (user_lines labels) d.users ++ open_lines labels d.now)
+read_lines labels d = flat_map (code_lines labels) d.codes ++ (flat_map (user_lines labels) d.users ++ pending_lines labels d.now)
 
 -- ---- shape
 
@@ -52,22 +52,22 @@ pub record IsAsker (blocks : ℕ) (u : UserScript) (count : ℕ) : Type 0 where
 abbrev pub AreAskers : ℕ → List UserScript → Type 0
 AreAskers blocks users = AllByRecursion (λ (u : UserScript). (count : ℕ) × IsAsker blocks u count) users
 
--- what is open: a block stands in front of all users
-abbrev pub OpenFits : List CodeBlock → List UserScript → Opened → Type 0
-OpenFits cs us NoneOpen = Unit {0}
-OpenFits cs us (BodyOpen label body) = IsBlock (length cs + 1) (record { label = label; body = body }) × (us ≡ [])
-OpenFits cs us (UserOpen name phases requests count) = IsAsker (length cs) (record { name = name; phases = phases ++ requests ∷ [] }) count
+-- what is unfinished: a block stands in front of all users
+abbrev pub PendingFits : List CodeBlock → List UserScript → Pending → Type 0
+PendingFits cs us NonePending = Unit {0}
+PendingFits cs us (BodyPending label body) = IsBlock (length cs + 1) (record { label = label; body = body }) × (us ≡ [])
+PendingFits cs us (UserPending name phases requests count) = IsAsker (length cs) (record { name = name; phases = phases ++ requests ∷ [] }) count
 
 pub record IsDraft (d : Read) : Type 0 where
-  pub labels : d.labels ≡ map label_of (d.codes ++ open_codes d.now)
-  pub names : d.names ≡ map named (d.users ++ open_users d.now)
+  pub labels : d.labels ≡ map label_of (d.codes ++ pending_codes d.now)
+  pub names : d.names ≡ map named (d.users ++ pending_users d.now)
   pub few_labels : length d.labels ≤ 64
   pub few_names : length d.names ≤ 8
   pub new_labels : AreDistinct d.labels
   pub new_names : AreDistinct d.names
   pub codes : AreBlocks 0 d.codes
   pub users : AreAskers (length d.codes) d.users
-  pub fits : OpenFits d.codes d.users d.now
+  pub fits : PendingFits d.codes d.users d.now
 
 -- ---- lists
 

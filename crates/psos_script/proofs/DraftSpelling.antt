@@ -25,8 +25,8 @@ use Rattle.psos_script.specs.declared.cause.Cause.{Cause}
 use Rattle.psos_script.specs.declared.cause.Cause.TheVariants as C
 use Rattle.psos_script.specs.declared.head.Head.{Head}
 use Rattle.psos_script.specs.declared.head.Head.TheVariants.{Code, End, User, Phase, Asks}
-use Rattle.psos_script.specs.declared.place.Place.{Place}
-use Rattle.psos_script.specs.declared.place.Place.TheVariants.{Outside, InBody, InUser}
+use Rattle.psos_script.specs.declared.section.Section.{Section}
+use Rattle.psos_script.specs.declared.section.Section.TheVariants.{Outside, InBody, InUser}
 
 -- ---- line after line
 
@@ -145,19 +145,19 @@ user_scripts blocks (u ∷ us) h =
     let a = h.0.1 in
     (record { named = a.named; some = a.some; few = omega (arith, a.counted, a.few); in_range = a.range }, user_scripts blocks us h.1)
 
-over_place : (p : Place) → where_true (in_body p) C.NoEnd ≡ None → p ≢ InBody
+over_section : (p : Section) → where_true (in_body p) C.NoEnd ≡ None → p ≢ InBody
 unfolding in_body
-over_place Outside e = λ q. cc
-over_place InUser e = λ q. cc
-over_place InBody e = absurd cc
+over_section Outside e = λ q. cc
+over_section InUser e = λ q. cc
+over_section InBody e = absurd cc
 
 over_names : (ns : List Text) → where_true (not (some_names ns)) C.NoUser ≡ None → 1 ≤ length ns
 over_names [] e = absurd cc
 over_names (n ∷ ns) e = omega arith
 
-over_parts : (s : Seen) → end_cause s ≡ None → (s.place ≢ InBody) × (1 ≤ length s.names)
+over_parts : (s : Seen) → end_cause s ≡ None → (s.section ≢ InBody) × (1 ≤ length s.names)
 unfolding end_cause
-over_parts s e = let p = or_left (where_true (in_body s.place) C.NoEnd) (where_true (not (some_names s.names)) C.NoUser) e in (over_place s.place p.0, over_names s.names p.1)
+over_parts s e = let p = or_left (where_true (in_body s.section) C.NoEnd) (where_true (not (some_names s.names)) C.NoUser) e in (over_section s.section p.0, over_names s.names p.1)
 
 -- what is finished is a script that is well formed
 finished : (d : Read) (cs : List CodeBlock) (us : List UserScript) → d.labels ≡ map label_of cs → d.names ≡ map named us → AreBlocks 0 cs → AreAskers (length cs) us → IsDraft d → 1 ≤ length d.names

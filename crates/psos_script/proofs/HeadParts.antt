@@ -21,8 +21,8 @@ use Rattle.psos_script.specs.declared.cause.Cause.TheVariants as C
 use Rattle.psos_script.specs.declared.verb.Verb.{Verb}
 use Rattle.psos_script.specs.declared.head.Head.{Head}
 use Rattle.psos_script.specs.declared.head.Head.TheVariants.{Code, End, User, Phase, Asks}
-use Rattle.psos_script.specs.declared.place.Place.{Place}
-use Rattle.psos_script.specs.declared.place.Place.TheVariants.{Outside, InBody, InUser}
+use Rattle.psos_script.specs.declared.section.Section.{Section}
+use Rattle.psos_script.specs.declared.section.Section.TheVariants.{Outside, InBody, InUser}
 
 -- ---- parts of a chain
 
@@ -46,7 +46,7 @@ no_part a b c d e f g k = absurd cc
 
 -- the parts of a head's chain
 abbrev pub HeadParts : Seen → Head → List Class → List Text → Type 0
-HeadParts s h cs ws = NoPart (where_true (is_outside h s.place) C.Outside) (where_true (is_no_end h s.place) C.NoEnd) (where_true (is_late_code h s.names) C.CodeAfterUser)
+HeadParts s h cs ws = NoPart (where_true (is_outside h s.section) C.Outside) (where_true (is_no_end h s.section) C.NoEnd) (where_true (is_late_code h s.names) C.CodeAfterUser)
     (operands_cause cs ws) (known_cause h s ws) (empty_cause h s.count) (many_cause h s)
 
 -- ---- operands
@@ -106,13 +106,13 @@ twice_none false c e = refl
 
 -- ---- the heads
 
-not_body_code : (p : Place) → where_true (is_no_end Code p) C.NoEnd ≡ None → p ≢ InBody
+not_body_code : (p : Section) → where_true (is_no_end Code p) C.NoEnd ≡ None → p ≢ InBody
 unfolding is_no_end
 not_body_code Outside e = λ q. cc
 not_body_code InUser e = λ q. cc
 not_body_code InBody e = absurd cc
 
-not_body_user : (p : Place) → where_true (is_no_end User p) C.NoEnd ≡ None → p ≢ InBody
+not_body_user : (p : Section) → where_true (is_no_end User p) C.NoEnd ≡ None → p ≢ InBody
 unfolding is_no_end
 not_body_user Outside e = λ q. cc
 not_body_user InUser e = λ q. cc
@@ -125,7 +125,7 @@ no_names (n ∷ ns) e = absurd cc
 
 -- what holds of each line
 pub record CodeParts (s : Seen) (ws : List Text) : Type 0 where
-  pub place : s.place ≢ InBody
+  pub section : s.section ≢ InBody
   pub none : s.names ≡ []
   pub label : IsNewName ws s.labels 64
 
@@ -137,13 +137,13 @@ code_parts s ws e =
     let new : is_among (get_or ws 0 []) s.labels ≡ false = twice_none _ _ p.known in
     let full : leb 64 (length s.labels) ≡ false = twice_none _ _ p.many in
     record {
-      place = not_body_code s.place p.no_end;
+      section = not_body_code s.section p.no_end;
       none = no_names s.names p.late;
       label = record { word = one.word; is = one.is; named = one.fits; new = ap (λ (t : List Text). is_among (get_or t 0 []) s.labels) (sym one.is) ∙ new; few = grind (arith, full) };
     }
 
 pub record UserParts (s : Seen) (ws : List Text) : Type 0 where
-  pub place : s.place ≢ InBody
+  pub section : s.section ≢ InBody
   pub name : IsNewName ws s.names 8
 
 pub user_parts : (s : Seen) (ws : List Text) → head_cause s User ws ≡ None → UserParts s ws
@@ -154,18 +154,18 @@ user_parts s ws e =
     let new : is_among (get_or ws 0 []) s.names ≡ false = twice_none _ _ p.known in
     let full : leb 8 (length s.names) ≡ false = twice_none _ _ p.many in
     record {
-      place = not_body_user s.place p.no_end;
+      section = not_body_user s.section p.no_end;
       name = record { word = one.word; is = one.is; named = one.fits; new = ap (λ (t : List Text). is_among (get_or t 0 []) s.names) (sym one.is) ∙ new; few = grind (arith, full) };
     }
 
-in_block : (p : Place) → where_true (is_outside End p) C.Outside ≡ None → p ≡ InBody
+in_block : (p : Section) → where_true (is_outside End p) C.Outside ≡ None → p ≡ InBody
 unfolding is_outside
 in_block Outside e = absurd cc
 in_block InUser e = absurd cc
 in_block InBody e = refl
 
 pub record EndParts (s : Seen) (ws : List Text) : Type 0 where
-  pub place : s.place ≡ InBody
+  pub section : s.section ≡ InBody
   pub none : ws ≡ []
   pub some : 1 ≤ s.count
 
@@ -174,16 +174,16 @@ unfolding head_cause empty_cause
 end_parts s ws e =
     let p : HeadParts s End [] ws = no_part _ _ _ _ _ _ _ e in
     let empty : eqb s.count 0 ≡ false = twice_none _ _ p.empty in
-    record { place = in_block s.place p.outside; none = no_operand ws p.operands; some = grind (arith, empty) }
+    record { section = in_block s.section p.outside; none = no_operand ws p.operands; some = grind (arith, empty) }
 
-in_user : (p : Place) → where_true (is_outside Phase p) C.Outside ≡ None → p ≡ InUser
+in_user : (p : Section) → where_true (is_outside Phase p) C.Outside ≡ None → p ≡ InUser
 unfolding is_outside
 in_user Outside e = absurd cc
 in_user InBody e = absurd cc
 in_user InUser e = refl
 
 pub record PhaseParts (s : Seen) (ws : List Text) : Type 0 where
-  pub place : s.place ≡ InUser
+  pub section : s.section ≡ InUser
   pub none : ws ≡ []
   pub few : s.count < 240
 
@@ -191,13 +191,13 @@ pub phase_parts : (s : Seen) (ws : List Text) → head_cause s Phase ws ≡ None
 unfolding head_cause many_cause
 phase_parts s ws e =
     let p : HeadParts s Phase [] ws = no_part _ _ _ _ _ _ _ e in
-    let place = in_user s.place p.outside in
-    let full : leb (line_limit s.place) s.count ≡ false = twice_none _ _ p.many in
-    let full240 : leb 240 s.count ≡ false = ap (λ (q : Place). leb (line_limit q) s.count) (sym place) ∙ full in
-    record { place = place; none = no_operand ws p.operands; few = grind (arith, full240) }
+    let section = in_user s.section p.outside in
+    let full : leb (line_limit s.section) s.count ≡ false = twice_none _ _ p.many in
+    let full240 : leb 240 s.count ≡ false = ap (λ (q : Section). leb (line_limit q) s.count) (sym section) ∙ full in
+    record { section = section; none = no_operand ws p.operands; few = grind (arith, full240) }
 
 -- a request stands where one may
-not_outside : (v : Verb) (p : Place) → where_true (is_outside (Asks v) p) C.Outside ≡ None → p ≢ Outside
+not_outside : (v : Verb) (p : Section) → where_true (is_outside (Asks v) p) C.Outside ≡ None → p ≢ Outside
 unfolding is_outside
 not_outside v Outside e q = absurd cc
 not_outside v InBody e q = absurd cc
@@ -208,15 +208,15 @@ ok_row (Ok r) e = (r, refl)
 ok_row (Err c) e = absurd cc
 
 pub record AskParts (s : Seen) (v : Verb) (ws : List Text) : Type 0 where
-  pub place : s.place ≢ Outside
+  pub section : s.section ≢ Outside
   pub request : Request
   pub row : row_of s.labels v ws ≡ Ok request
-  pub few : s.count < line_limit s.place
+  pub few : s.count < line_limit s.section
 
 pub ask_parts : (s : Seen) (v : Verb) (ws : List Text) → head_cause s (Asks v) ws ≡ None → AskParts s v ws
 unfolding head_cause many_cause
 ask_parts s v ws e =
     let p : HeadParts s (Asks v) (verb_classes v) ws = no_part _ _ _ _ _ _ _ e in
     let row = ok_row (row_of s.labels v ws) (row_cause s v ws ∙ ap (λ (k : Option Cause). k or known_cause (Asks v) s ws) p.operands ∙ p.known) in
-    let full : leb (line_limit s.place) s.count ≡ false = twice_none _ _ p.many in
-    record { place = not_outside v s.place p.outside; request = row.0; row = row.1; few = grind (arith, full) }
+    let full : leb (line_limit s.section) s.count ≡ false = twice_none _ _ p.many in
+    record { section = not_outside v s.section p.outside; request = row.0; row = row.1; few = grind (arith, full) }

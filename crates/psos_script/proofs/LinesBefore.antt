@@ -8,32 +8,32 @@ use Rattle.psos_model.specs.Text.Operands.{Text}
 use Rattle.psos_script.specs.Table.{head_of}
 use Rattle.psos_script.specs.Values.{row_of}
 use Rattle.psos_script.specs.Fault.{Seen, seen, fault_from, fault_of, at_line, line_cause, end_cause, with_line, count, ◌or◌, headed_cause, words_cause}
-use Rattle.psos_script.specs.Draft.{Read, Opened, NoneOpen, BodyOpen, UserOpen, seen_in, place_in, count_in, added, taken, phased, fault_after, after_line, after_headed, nothing_read}
+use Rattle.psos_script.specs.Draft.{Read, Pending, NonePending, BodyPending, UserPending, seen_in, section_in, count_in, added, taken, phased, fault_after, after_line, after_headed, nothing_read}
 use Rattle.psos_script.proofs.HeadParts.{phase_parts, ask_parts}
 use Rattle.psos_script.specs.declared.verb.Verb.{Verb}
 use Rattle.psos_script.specs.declared.head.Head.{Head}
 use Rattle.psos_script.specs.declared.head.Head.TheVariants.{Code, End, User, Phase, Asks}
-use Rattle.psos_script.specs.declared.place.Place.{Place}
-use Rattle.psos_script.specs.declared.place.Place.TheVariants.{Outside, InUser}
+use Rattle.psos_script.specs.declared.section.Section.{Section}
+use Rattle.psos_script.specs.declared.section.Section.TheVariants.{Outside, InUser}
 use Rattle.psos_script.specs.declared.cause.Cause.{Cause}
 
 pub or_left : (a b : Option Cause) → (a or b) ≡ None → (a ≡ None) × (b ≡ None)
 or_left None b e = (refl, e)
 or_left (Some c) b e = absurd cc
 
-seen_is : (p q : Place) (ls ms ns os : List Text) (n m : ℕ) → p ≡ q → ls ≡ ms → ns ≡ os → n ≡ m → (let s : Seen = record { place = p; labels = ls; names = ns; count = n } in s) ≡ record { place = q; labels = ms; names = os; count = m }
+seen_is : (p q : Section) (ls ms ns os : List Text) (n m : ℕ) → p ≡ q → ls ≡ ms → ns ≡ os → n ≡ m → (let s : Seen = record { section = p; labels = ls; names = ns; count = n } in s) ≡ record { section = q; labels = ms; names = os; count = m }
 seen_is p q ls ms ns os n m a b c d = rw (a, b, c, d) refl
 
 -- a request was added
-added_count : (o : Opened) (r : Request) (n : ℕ) → place_in o ≢ Outside → n ≡ count_in o → n + 1 ≡ count_in (added o r)
-added_count NoneOpen r n p e = absurd (p refl)
-added_count (BodyOpen label body) r n p e = rw e (omega (arith, length-append body (r ∷ [])))
-added_count (UserOpen name phases requests count) r n p e = rw e refl
+added_count : (o : Pending) (r : Request) (n : ℕ) → section_in o ≢ Outside → n ≡ count_in o → n + 1 ≡ count_in (added o r)
+added_count NonePending r n p e = absurd (p refl)
+added_count (BodyPending label body) r n p e = rw e (omega (arith, length-append body (r ∷ [])))
+added_count (UserPending name phases requests count) r n p e = rw e refl
 
-added_place : (o : Opened) (r : Request) → place_in (added o r) ≡ place_in o
-added_place NoneOpen r = refl
-added_place (BodyOpen label body) r = refl
-added_place (UserOpen name phases requests count) r = refl
+added_section : (o : Pending) (r : Request) → section_in (added o r) ≡ section_in o
+added_section NonePending r = refl
+added_section (BodyPending label body) r = refl
+added_section (UserPending name phases requests count) r = refl
 
 seen_code : (past : List (List Text)) (d : Read) (w : Text) (ws : List Text) → head_of w ≡ Some Code → seen past ≡ seen_in d → seen ((w ∷ ws) ∷ past) ≡ seen_in (taken d Code ws)
 seen_code past d w ws h s = rw h (seen_is _ _ _ _ _ _ _ _ refl (ap (λ (x : Seen). x.labels ++ get_or ws 0 [] ∷ []) s) (ap (λ (x : Seen). x.names) s) refl)
@@ -44,28 +44,28 @@ seen_end past d w ws h s = rw h (seen_is _ _ _ _ _ _ _ _ refl (ap (λ (x : Seen)
 seen_user : (past : List (List Text)) (d : Read) (w : Text) (ws : List Text) → head_of w ≡ Some User → seen past ≡ seen_in d → seen ((w ∷ ws) ∷ past) ≡ seen_in (taken d User ws)
 seen_user past d w ws h s = rw h (seen_is _ _ _ _ _ _ _ _ refl (ap (λ (x : Seen). x.labels) s) (ap (λ (x : Seen). x.names ++ get_or ws 0 [] ∷ []) s) refl)
 
-seen_asks : (past : List (List Text)) (d : Read) (v : Verb) (w : Text) (ws : List Text) (r : Request) → head_of w ≡ Some (Asks v) → place_in d.now ≢ Outside → row_of d.labels v ws ≡ Ok r → seen past ≡ seen_in d → seen ((w ∷ ws) ∷ past) ≡ seen_in (taken d (Asks v) ws)
+seen_asks : (past : List (List Text)) (d : Read) (v : Verb) (w : Text) (ws : List Text) (r : Request) → head_of w ≡ Some (Asks v) → section_in d.now ≢ Outside → row_of d.labels v ws ≡ Ok r → seen past ≡ seen_in d → seen ((w ∷ ws) ∷ past) ≡ seen_in (taken d (Asks v) ws)
 seen_asks past d v w ws r h p row s =
     rw (h, row) (seen_is _ _ _ _ _ _ _ _
-    (ap (λ (x : Seen). x.place) s ∙ sym (added_place d.now r))
+    (ap (λ (x : Seen). x.section) s ∙ sym (added_section d.now r))
     (ap (λ (x : Seen). x.labels) s)
     (ap (λ (x : Seen). x.names) s)
     (added_count d.now r (count past) p (ap (λ (x : Seen). x.count) s)))
 
-phased_count : (o : Opened) (n : ℕ) → place_in o ≡ InUser → n ≡ count_in o → n + 1 ≡ count_in (phased o)
-phased_count NoneOpen n p e = absurd cc
-phased_count (BodyOpen label body) n p e = absurd cc
-phased_count (UserOpen name phases requests count) n p e = rw e refl
+phased_count : (o : Pending) (n : ℕ) → section_in o ≡ InUser → n ≡ count_in o → n + 1 ≡ count_in (phased o)
+phased_count NonePending n p e = absurd cc
+phased_count (BodyPending label body) n p e = absurd cc
+phased_count (UserPending name phases requests count) n p e = rw e refl
 
-phased_place : (o : Opened) → place_in (phased o) ≡ place_in o
-phased_place NoneOpen = refl
-phased_place (BodyOpen label body) = refl
-phased_place (UserOpen name phases requests count) = refl
+phased_section : (o : Pending) → section_in (phased o) ≡ section_in o
+phased_section NonePending = refl
+phased_section (BodyPending label body) = refl
+phased_section (UserPending name phases requests count) = refl
 
-seen_phase : (past : List (List Text)) (d : Read) (w : Text) (ws : List Text) → head_of w ≡ Some Phase → place_in d.now ≡ InUser → seen past ≡ seen_in d → seen ((w ∷ ws) ∷ past) ≡ seen_in (taken d Phase ws)
+seen_phase : (past : List (List Text)) (d : Read) (w : Text) (ws : List Text) → head_of w ≡ Some Phase → section_in d.now ≡ InUser → seen past ≡ seen_in d → seen ((w ∷ ws) ∷ past) ≡ seen_in (taken d Phase ws)
 seen_phase past d w ws h p s =
     rw h (seen_is _ _ _ _ _ _ _ _
-    (ap (λ (x : Seen). x.place) s ∙ sym (phased_place d.now))
+    (ap (λ (x : Seen). x.section) s ∙ sym (phased_section d.now))
     (ap (λ (x : Seen). x.labels) s)
     (ap (λ (x : Seen). x.names) s)
     (phased_count d.now (count past) p (ap (λ (x : Seen). x.count) s)))
@@ -75,8 +75,8 @@ by_head past d w ws None h e s = absurd cc
 by_head past d w ws (Some Code) h e s = seen_code past d w ws h s
 by_head past d w ws (Some End) h e s = seen_end past d w ws h s
 by_head past d w ws (Some User) h e s = seen_user past d w ws h s
-by_head past d w ws (Some Phase) h e s = seen_phase past d w ws h (phase_parts (seen_in d) ws e).place s
-by_head past d w ws (Some (Asks v)) h e s = let p = ask_parts (seen_in d) v ws e in seen_asks past d v w ws p.request h p.place p.row s
+by_head past d w ws (Some Phase) h e s = seen_phase past d w ws h (phase_parts (seen_in d) ws e).section s
+by_head past d w ws (Some (Asks v)) h e s = let p = ask_parts (seen_in d) v ws e in seen_asks past d v w ws p.request h p.section p.row s
 
 by_skip : (past : List (List Text)) (d : Read) (w : Text) (ws : List Text) (t : Bool) → cond t None (headed_cause (seen_in d) (head_of w) ws) ≡ None → seen past ≡ seen_in d
     → seen (cond t past ((w ∷ ws) ∷ past)) ≡ seen_in (cond t d (after_headed d (head_of w) ws))

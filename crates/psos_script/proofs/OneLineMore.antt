@@ -9,8 +9,8 @@ use Rattle.psos_calls.specs.Language.Script.{CodeBlock, UserScript}
 use Rattle.psos_model.specs.Text.Operands.{Text}
 use Rattle.psos_model.specs.Text.RequestWords.{request_words}
 use Rattle.psos_model.specs.Text.Spelling.{requests_lines, code_lines, later_lines, phases_lines, user_lines}
-use Rattle.psos_script.specs.Draft.{Read, Opened, NoneOpen, BodyOpen, UserOpen, added, phased, with_now, with_code, with_user, closed}
-use Rattle.psos_script.proofs.DraftShape.{open_lines, read_lines}
+use Rattle.psos_script.specs.Draft.{Read, Pending, NonePending, BodyPending, UserPending, added, phased, with_now, with_code, with_user, closed}
+use Rattle.psos_script.proofs.DraftShape.{pending_lines, read_lines}
 
 -- ---- one request more
 
@@ -34,12 +34,12 @@ behind : (a b c line : List (List Text)) → c ≡ b ++ line → (us : List (Lis
 behind a b c line e us = rw e (ap (λ (x : List (List Text)). a ++ x) (sym (append_assoc us b line)) ∙ sym (append_assoc a (us ++ b) line))
 
 -- a request more
-pub asked_lines : (labels : List Text) (d : Read) (o : Opened) (r : Request) → o ≢ NoneOpen → read_lines labels (with_now d (added o r)) ≡ read_lines labels (with_now d o) ++ request_words labels r ∷ []
-asked_lines labels d NoneOpen r h = absurd (h refl)
-asked_lines labels d (BodyOpen label body) r h =
-    behind (flat_map (code_lines labels) d.codes) (open_lines labels (BodyOpen label body)) (open_lines labels (added (BodyOpen label body) r)) (request_words labels r ∷ []) (ap (λ (ls : List (List Text)). (codes "code" ∷ label ∷ []) ∷ ls) (more_requests labels body r)) (flat_map (user_lines labels) d.users)
-asked_lines labels d (UserOpen name phases requests count) r h =
-    behind (flat_map (code_lines labels) d.codes) (open_lines labels (UserOpen name phases requests count)) (open_lines labels (added (UserOpen name phases requests count) r)) (request_words labels r ∷ []) (ap (λ (ls : List (List Text)). (codes "user" ∷ name ∷ []) ∷ ls) (last_phase labels phases requests r)) (flat_map (user_lines labels) d.users)
+pub asked_lines : (labels : List Text) (d : Read) (o : Pending) (r : Request) → o ≢ NonePending → read_lines labels (with_now d (added o r)) ≡ read_lines labels (with_now d o) ++ request_words labels r ∷ []
+asked_lines labels d NonePending r h = absurd (h refl)
+asked_lines labels d (BodyPending label body) r h =
+    behind (flat_map (code_lines labels) d.codes) (pending_lines labels (BodyPending label body)) (pending_lines labels (added (BodyPending label body) r)) (request_words labels r ∷ []) (ap (λ (ls : List (List Text)). (codes "code" ∷ label ∷ []) ∷ ls) (more_requests labels body r)) (flat_map (user_lines labels) d.users)
+asked_lines labels d (UserPending name phases requests count) r h =
+    behind (flat_map (code_lines labels) d.codes) (pending_lines labels (UserPending name phases requests count)) (pending_lines labels (added (UserPending name phases requests count) r)) (request_words labels r ∷ []) (ap (λ (ls : List (List Text)). (codes "user" ∷ name ∷ []) ∷ ls) (last_phase labels phases requests r)) (flat_map (user_lines labels) d.users)
 
 -- ---- `phase`
 
@@ -51,15 +51,15 @@ next_phase labels (first ∷ later) rs =
 
 -- a phase more
 pub phased_lines : (labels : List Text) (d : Read) (name : Text) (phases : List (List Request)) (rs : List Request) (count : ℕ)
-    → read_lines labels (with_now d (phased (UserOpen name phases rs count))) ≡ read_lines labels (with_now d (UserOpen name phases rs count)) ++ (codes "phase" ∷ []) ∷ []
+    → read_lines labels (with_now d (phased (UserPending name phases rs count))) ≡ read_lines labels (with_now d (UserPending name phases rs count)) ++ (codes "phase" ∷ []) ∷ []
 phased_lines labels d name phases rs count =
-    behind (flat_map (code_lines labels) d.codes) (open_lines labels (UserOpen name phases rs count)) (open_lines labels (phased (UserOpen name phases rs count))) ((codes "phase" ∷ []) ∷ []) (ap (λ (ls : List (List Text)). (codes "user" ∷ name ∷ []) ∷ ls) (next_phase labels phases rs)) (flat_map (user_lines labels) d.users)
+    behind (flat_map (code_lines labels) d.codes) (pending_lines labels (UserPending name phases rs count)) (pending_lines labels (phased (UserPending name phases rs count))) ((codes "phase" ∷ []) ∷ []) (ap (λ (ls : List (List Text)). (codes "user" ∷ name ∷ []) ∷ ls) (next_phase labels phases rs)) (flat_map (user_lines labels) d.users)
 
 -- ---- `end`, `code` and `user`
 
--- what is open is finished: a block has `end` behind it
+-- what is unfinished is finished: a block has `end` behind it
 pub ended_lines : (labels : List Text) (d : Read) (label : Text) (body : List Request) → d.users ≡ []
-    → read_lines labels (closed (with_now d (BodyOpen label body))) ≡ read_lines labels (with_now d (BodyOpen label body)) ++ (codes "end" ∷ []) ∷ []
+    → read_lines labels (closed (with_now d (BodyPending label body))) ≡ read_lines labels (with_now d (BodyPending label body)) ++ (codes "end" ∷ []) ∷ []
 ended_lines labels d label body e =
     let c : CodeBlock = record { label = label; body = body } in
     let front = flat_map (code_lines labels) d.codes in
@@ -67,26 +67,26 @@ ended_lines labels d label body e =
     append-nil (flat_map (code_lines labels) (d.codes ++ c ∷ []))
     ∙ flat_map-append (code_lines labels) d.codes (c ∷ [])
     ∙ ap (λ (ls : List (List Text)). front ++ ls) (append-nil (code_lines labels c))
-    ∙ sym (append_assoc front (open_lines labels (BodyOpen label body)) ((codes "end" ∷ []) ∷ [])))
+    ∙ sym (append_assoc front (pending_lines labels (BodyPending label body)) ((codes "end" ∷ []) ∷ [])))
 
--- a block begins, where nothing is open and no user has begun
-pub begun_code : (labels : List Text) (d : Read) (label : Text) → d.users ≡ [] → d.now ≡ NoneOpen
+-- a block begins, where nothing is unfinished and no user has begun
+pub begun_code : (labels : List Text) (d : Read) (label : Text) → d.users ≡ [] → d.now ≡ NonePending
     → read_lines labels (with_code d label) ≡ read_lines labels d ++ (codes "code" ∷ label ∷ []) ∷ []
 begun_code labels d label e n = rw (e, n) (ap (λ (ls : List (List Text)). ls ++ (codes "code" ∷ label ∷ []) ∷ []) (sym (append-nil (flat_map (code_lines labels) d.codes))))
 
 -- a user is finished without a line of its own
-pub closed_lines : (labels : List Text) (d : Read) (o : Opened) → ((label : Text) (body : List Request) → o ≢ BodyOpen label body) → read_lines labels (closed (with_now d o)) ≡ read_lines labels (with_now d o)
-closed_lines labels d NoneOpen h = rw (append-nil d.codes, append-nil d.users) refl
-closed_lines labels d (BodyOpen label body) h = absurd (h label body refl)
-closed_lines labels d (UserOpen name phases requests count) h =
+pub closed_lines : (labels : List Text) (d : Read) (o : Pending) → ((label : Text) (body : List Request) → o ≢ BodyPending label body) → read_lines labels (closed (with_now d o)) ≡ read_lines labels (with_now d o)
+closed_lines labels d NonePending h = rw (append-nil d.codes, append-nil d.users) refl
+closed_lines labels d (BodyPending label body) h = absurd (h label body refl)
+closed_lines labels d (UserPending name phases requests count) h =
     let u : UserScript = record { name = name; phases = phases ++ requests ∷ [] } in
     let users = flat_map (user_lines labels) d.users in
     let same : flat_map (user_lines labels) (d.users ++ u ∷ []) ++ [] ≡ users ++ user_lines labels u =
     append-nil (flat_map (user_lines labels) (d.users ++ u ∷ [])) ∙ flat_map-append (user_lines labels) d.users (u ∷ []) ∙ ap (λ (ls : List (List Text)). users ++ ls) (append-nil (user_lines labels u)) in
     rw (append-nil d.codes) (ap (λ (ls : List (List Text)). flat_map (code_lines labels) d.codes ++ ls) same)
 
--- a user begins, where nothing is open
-pub begun_user : (labels : List Text) (d : Read) (name : Text) → d.now ≡ NoneOpen → read_lines labels (with_user d name) ≡ read_lines labels d ++ (codes "user" ∷ name ∷ []) ∷ []
+-- a user begins, where nothing is unfinished
+pub begun_user : (labels : List Text) (d : Read) (name : Text) → d.now ≡ NonePending → read_lines labels (with_user d name) ≡ read_lines labels d ++ (codes "user" ∷ name ∷ []) ∷ []
 begun_user labels d name n =
     let front = flat_map (code_lines labels) d.codes in
     let users = flat_map (user_lines labels) d.users in

@@ -14,15 +14,15 @@ use Rattle.psos_calls.specs.Language.Script.{CodeBlock, UserScript, Script, IsCo
 use Rattle.psos_model.specs.Text.Operands.{Text}
 use Rattle.psos_model.specs.Text.Spelling.{labels_of, requests_lines, code_lines, phases_lines, user_lines, script_lines, is_skipped, kept, is_printable, is_line, AreInOrder, IsScript}
 use Rattle.psos_script.specs.Fault.{Seen, is_among, at_line, line_cause, words_cause, end_cause, in_body, fault_of}
-use Rattle.psos_script.specs.Draft.{Read, NoneOpen, BodyOpen, UserOpen, place_in, seen_in, closed, with_now, with_code, after_line, nothing_read, fault_after, read_after, script_of, script_in}
+use Rattle.psos_script.specs.Draft.{Read, NonePending, BodyPending, UserPending, section_in, seen_in, closed, with_now, with_code, after_line, nothing_read, fault_after, read_after, script_of, script_in}
 use Rattle.psos_script.proofs.RowsAgain.{AreNumbered}
 use Rattle.psos_script.proofs.LinesBefore.{from_start}
 use Rattle.psos_script.proofs.DraftShape.{label_of, named}
 use Rattle.psos_script.proofs.LineWalks.{Walk, Walk-append, Walk-cons, head_words, head_after, code_fine, user_fine, end_fine, IsReady, body_walk, phases_walk}
 use Rattle.psos_script.specs.declared.cause.Cause.{Cause}
 use Rattle.psos_script.specs.declared.head.Head.TheVariants.{Code, End, User}
-use Rattle.psos_script.specs.declared.place.Place.{Place}
-use Rattle.psos_script.specs.declared.place.Place.TheVariants.{Outside, InBody, InUser}
+use Rattle.psos_script.specs.declared.section.Section.{Section}
+use Rattle.psos_script.specs.declared.section.Section.TheVariants.{Outside, InBody, InUser}
 
 -- ---- texts apart
 
@@ -63,13 +63,13 @@ distinct_numbered (l ∷ ls) h (suc i) lt =
 
 -- ---- code blocks
 
--- these blocks and users are read, and nothing is open
+-- these blocks and users are read, and nothing is unfinished
 abbrev pub at : List CodeBlock → List UserScript → Read
-at cs us = record { labels = map label_of cs; codes = cs; names = map named us; users = us; now = NoneOpen }
+at cs us = record { labels = map label_of cs; codes = cs; names = map named us; users = us; now = NonePending }
 
 block_ends : (cs : List CodeBlock) (c : CodeBlock)
-    → closed (with_now (with_code (at cs []) c.label) (BodyOpen c.label c.body)) ≡ at (cs ++ c ∷ []) []
-block_ends cs c = ap (λ (ls : List Text). let d : Read = record { labels = ls; codes = cs ++ c ∷ []; names = []; users = []; now = NoneOpen } in d) (sym (map-append label_of cs (c ∷ [])))
+    → closed (with_now (with_code (at cs []) c.label) (BodyPending c.label c.body)) ≡ at (cs ++ c ∷ []) []
+block_ends cs c = ap (λ (ls : List Text). let d : Read = record { labels = ls; codes = cs ++ c ∷ []; names = []; users = []; now = NonePending } in d) (sym (map-append label_of cs (c ∷ [])))
 
 code_walk : (cs : List CodeBlock) (c : CodeBlock) (rest : List Text) → is_among c.label (map label_of cs) ≡ false → length cs < 64 → IsTrue (is_name c.label) → 1 ≤ length c.body → length c.body ≤ 16
     → IsReady (map label_of cs ++ c.label ∷ []) rest → AllByRecursion (InRange (length (map label_of cs ++ c.label ∷ []))) c.body
@@ -78,7 +78,7 @@ code_walk cs c rest new few name some short ready range =
     let d = at cs [] in
     let m = with_code d c.label in
     let all = (map label_of cs ++ c.label ∷ []) ++ rest in
-    let e = with_now m (BodyOpen c.label c.body) in
+    let e = with_now m (BodyPending c.label c.body) in
     let z = at (cs ++ c ∷ []) [] in
     let body : Walk m (requests_lines all c.body) e = body_walk m rest c.label [] c.body ready (omega (arith, short)) range in
     let last : Walk e ((codes "end" ∷ []) ∷ []) z = Walk-cons e z z (codes "end" ∷ []) [] (head_words (seen_in e) End [] ∙ end_fine m.labels m.names (length c.body) some) (head_after e End [] ∙ block_ends cs c) refl in
@@ -120,14 +120,14 @@ codes_walk cs (c ∷ later) blocks new names few fit order =
 
 -- what is read when a user begins
 abbrev pub begun : Read → Text → Read
-begun d name = record { labels = d.labels; codes = (closed d).codes; names = d.names ++ name ∷ []; users = (closed d).users; now = NoneOpen }
+begun d name = record { labels = d.labels; codes = (closed d).codes; names = d.names ++ name ∷ []; users = (closed d).users; now = NonePending }
 
--- over these lines to a place behind all code blocks, where these blocks and users are finished
+-- over these lines to a point behind all code blocks, where these blocks and users are finished
 record Goes (d : Read) (lines : List (List Text)) (cs : List CodeBlock) (us : List UserScript) : Type 0 where
   end : Read
   walk : Walk d lines end
   finished : closed end ≡ at cs us
-  place : place_in end.now ≢ InBody
+  section : section_in end.now ≢ InBody
 
 -- the user with these phases
 abbrev with_phases : UserScript → List (List Request) → UserScript
@@ -138,16 +138,16 @@ same_user u phases e = ap (λ (ps : List (List Request)). with_phases u ps) e
 
 -- one user more, and what is finished then
 abbrev one_more : Read → UserScript → UserScript → Read
-one_more d u v = record { labels = d.labels; codes = d.codes ++ []; names = d.names ++ u.name ∷ []; users = d.users ++ v ∷ []; now = NoneOpen }
+one_more d u v = record { labels = d.labels; codes = d.codes ++ []; names = d.names ++ u.name ∷ []; users = d.users ++ v ∷ []; now = NonePending }
 
 ends_at : (d : Read) (cs : List CodeBlock) (us : List UserScript) (u v : UserScript) → d ≡ at cs us → v ≡ u → one_more d u v ≡ at cs (us ++ u ∷ [])
 ends_at d cs us u v is e =
     ap (λ (x : Read). one_more x u v) is
-    ∙ rw (e, append-nil cs) (ap (λ (ls : List Text). let r : Read = record { labels = map label_of cs; codes = cs; names = ls; users = us ++ u ∷ []; now = NoneOpen } in r) (sym (map-append named us (u ∷ []))))
+    ∙ rw (e, append-nil cs) (ap (λ (ls : List Text). let r : Read = record { labels = map label_of cs; codes = cs; names = ls; users = us ++ u ∷ []; now = NonePending } in r) (sym (map-append named us (u ∷ []))))
 
-user_walk : (d : Read) (cs : List CodeBlock) (us : List UserScript) (u : UserScript) (blocks : ℕ) → closed d ≡ at cs us → place_in d.now ≢ InBody → is_among u.name (map named us) ≡ false → length us < 8
+user_walk : (d : Read) (cs : List CodeBlock) (us : List UserScript) (u : UserScript) (blocks : ℕ) → closed d ≡ at cs us → section_in d.now ≢ InBody → is_among u.name (map named us) ≡ false → length us < 8
     → IsReady (map label_of cs) [] → length cs ≡ blocks → IsUserScript blocks u → Goes d (user_lines (map label_of cs ++ []) u) cs (us ++ u ∷ [])
-user_walk d cs us u blocks is place new few ready count fit =
+user_walk d cs us u blocks is section new few ready count fit =
     let labels : d.labels ≡ map label_of cs = ap (λ (x : Read). x.labels) is in
     let names : d.names ≡ map named us = ap (λ (x : Read). x.names) is in
     let b = begun d u.name in
@@ -155,37 +155,37 @@ user_walk d cs us u blocks is place new few ready count fit =
     let RN : ℕ → Type 0 = λ n. AllByRecursion (AllByRecursion (InRange n)) u.phases in
     let many : blocks ≡ length d.labels = sym count ∙ sym (length-map cs label_of) ∙ ap length (sym labels) in
     let ends = phases_walk b [] u.name u.phases (subst RD (sym labels) ready) fit.some fit.few (subst RN many fit.in_range) in
-    let e = with_now b (UserOpen u.name ends.done ends.last ends.count) in
+    let e = with_now b (UserPending u.name ends.done ends.last ends.count) in
     let own : is_among u.name d.names ≡ false = ap (λ (ns : List Text). is_among u.name ns) names ∙ new in
     let fewer : length d.names < 8 = omega (arith, few, ap length names, (let e : length (map named us) ≡ length us = length-map us named in e)) in
-    let cause = head_words (seen_in d) User (u.name ∷ []) ∙ user_fine (place_in d.now) d.labels d.names (seen_in d).count u.name place fit.named own fewer in
+    let cause = head_words (seen_in d) User (u.name ∷ []) ∙ user_fine (section_in d.now) d.labels d.names (seen_in d).count u.name section fit.named own fewer in
     let L : List Text → Type 0 = λ ls. Walk d (user_lines (ls ++ []) u) e in
     let one = same_user u (ends.done ++ ends.last ∷ []) ends.is in
     record {
       end = e;
-      walk = subst L labels (Walk-cons d (with_now b (UserOpen u.name [] [] 0)) e (codes "user" ∷ u.name ∷ []) (phases_lines (d.labels ++ []) u.phases) cause (head_after d User (u.name ∷ [])) ends.walk);
+      walk = subst L labels (Walk-cons d (with_now b (UserPending u.name [] [] 0)) e (codes "user" ∷ u.name ∷ []) (phases_lines (d.labels ++ []) u.phases) cause (head_after d User (u.name ∷ [])) ends.walk);
       finished = ends_at (closed d) cs us u (with_phases u (ends.done ++ ends.last ∷ [])) is one;
-      place = λ q. absurd cc;
+      section = λ q. absurd cc;
     }
 
 at_same : (d : Read) (cs : List CodeBlock) (us vs : List UserScript) → d ≡ at cs us → us ≡ vs → d ≡ at cs vs
 at_same d cs us vs is e = let P : List UserScript → Type 0 = λ x. d ≡ at cs x in subst P e is
 
-users_walk : (d : Read) (cs : List CodeBlock) (us later : List UserScript) (blocks : ℕ) → closed d ≡ at cs us → place_in d.now ≢ InBody → AreDistinct (map named (us ++ later)) → length (us ++ later) ≤ 8
+users_walk : (d : Read) (cs : List CodeBlock) (us later : List UserScript) (blocks : ℕ) → closed d ≡ at cs us → section_in d.now ≢ InBody → AreDistinct (map named (us ++ later)) → length (us ++ later) ≤ 8
     → IsReady (map label_of cs) [] → length cs ≡ blocks → AllByRecursion (IsUserScript blocks) later → Goes d (flat_map (user_lines (map label_of cs ++ [])) later) cs (us ++ later)
-users_walk d cs us [] blocks is place new few ready count fit = record { end = d; walk = refl; finished = at_same (closed d) cs us (us ++ []) is (sym (append-nil us)); place = place }
-users_walk d cs us (u ∷ later) blocks is place new few ready count fit =
+users_walk d cs us [] blocks is section new few ready count fit = record { end = d; walk = refl; finished = at_same (closed d) cs us (us ++ []) is (sym (append-nil us)); section = section }
+users_walk d cs us (u ∷ later) blocks is section new few ready count fit =
     let D : List Text → Type 0 = λ ls. AreDistinct ls in
     let own = distinct_new (map named us) u.name (map named later) (subst D (map-append named us (u ∷ later)) new) in
-    let one = user_walk d cs us u blocks is place own (omega (arith, few, length-append us (u ∷ later))) ready count fit.0 in
+    let one = user_walk d cs us u blocks is section own (omega (arith, few, length-append us (u ∷ later))) ready count fit.0 in
     let moved : (us ++ u ∷ []) ++ later ≡ us ++ u ∷ later = append_assoc us (u ∷ []) later in
     let S : List UserScript → Type 0 = λ x. AreDistinct (map named x) in
-    let others = users_walk one.end cs (us ++ u ∷ []) later blocks one.finished one.place (subst S (sym moved) new) (omega (arith, few, ap length moved)) ready count fit.1 in
+    let others = users_walk one.end cs (us ++ u ∷ []) later blocks one.finished one.section (subst S (sym moved) new) (omega (arith, few, ap length moved)) ready count fit.1 in
     record {
       end = others.end;
       walk = Walk-append d one.end others.end (user_lines (map label_of cs ++ []) u) (flat_map (user_lines (map label_of cs ++ [])) later) one.walk others.walk;
       finished = at_same (closed others.end) cs ((us ++ u ∷ []) ++ later) (us ++ u ∷ later) others.finished moved;
-      place = others.place;
+      section = others.section;
     }
 
 -- ---- lines
@@ -216,7 +216,7 @@ lines_walk n d e (line ∷ lines) h w over =
 
 -- ---- the script
 
-over_none : (p : Place) (ls ns : List Text) (n : ℕ) → p ≢ InBody → 1 ≤ length ns → end_cause (record { place = p; labels = ls; names = ns; count = n }) ≡ None
+over_none : (p : Section) (ls ns : List Text) (n : ℕ) → p ≢ InBody → 1 ≤ length ns → end_cause (record { section = p; labels = ls; names = ns; count = n }) ≡ None
 unfolding end_cause in_body
 over_none InBody ls ns n p some = absurd (p refl)
 over_none Outside ls [] n p some = absurd (omega (arith, some))
@@ -241,7 +241,7 @@ script_walk s f order =
     let first : Walk nothing_read (flat_map (code_lines (labels_of s)) s.codes) (at s.codes []) = codes_walk [] s.codes blocks f.labels names f.few_codes f.codes order in
     let N : List Text → Type 0 = λ ls. AllByRecursion (λ l. IsTrue (is_name l)) ls in
     let ready : IsReady (labels_of s) [] = record { numbered = distinct_numbered (labels_of s) f.labels; named = subst N (sym (append-nil (labels_of s))) names } in
-    let same : closed (at s.codes []) ≡ at s.codes [] = ap (λ (cs : List CodeBlock). let d : Read = record { labels = map label_of s.codes; codes = cs; names = []; users = []; now = NoneOpen } in d) (append-nil s.codes) in
+    let same : closed (at s.codes []) ≡ at s.codes [] = ap (λ (cs : List CodeBlock). let d : Read = record { labels = map label_of s.codes; codes = cs; names = []; users = []; now = NonePending } in d) (append-nil s.codes) in
     let later = users_walk (at s.codes []) s.codes [] s.users blocks same (λ q. absurd cc) f.names f.few_users ready refl f.users in
     let L : List Text → Type 0 = λ ls. Walk (at s.codes []) (flat_map (user_lines ls) s.users) later.end in
     let end_names : later.end.names ≡ map named s.users = ap (λ (x : Read). x.names) later.finished in
@@ -249,7 +249,7 @@ script_walk s f order =
       end = later.end;
       walk = Walk-append nothing_read (at s.codes []) later.end (flat_map (code_lines (labels_of s)) s.codes) (flat_map (user_lines (labels_of s)) s.users) first (subst L (append-nil (labels_of s)) later.walk);
       finished = later.finished;
-      over = over_none (place_in later.end.now) later.end.labels later.end.names (seen_in later.end).count later.place (omega (arith, f.some_users, ap length end_names, (let e : length (map named s.users) ≡ length s.users = length-map s.users named in e)));
+      over = over_none (section_in later.end.now) later.end.labels later.end.names (seen_in later.end).count later.section (omega (arith, f.some_users, ap length end_names, (let e : length (map named s.users) ≡ length s.users = length-map s.users named in e)));
     }
 
 -- the bytes of a script have no fault, and that script is read of them

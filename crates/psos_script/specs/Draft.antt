@@ -9,21 +9,21 @@ use Rattle.psos_script.specs.Table.{head_of}
 use Rattle.psos_script.specs.Fault.{Seen, line_cause, end_cause, at_line}
 use Rattle.psos_script.specs.Values.{row_of}
 use Rattle.psos_script.specs.declared.draft.Draft.{Draft}
-use Rattle.psos_script.specs.declared.open.Open.{Open}
-use Rattle.psos_script.specs.declared.open.Open.TheVariants.{Nothing, Body, Asking}
+use Rattle.psos_script.specs.declared.unfinished.Unfinished.{Unfinished}
+use Rattle.psos_script.specs.declared.unfinished.Unfinished.TheVariants.{Nothing, Body, Asking}
 use Rattle.psos_script.specs.declared.line_fault.LineFault.{LineFault}
 use Rattle.psos_script.specs.declared.line_fault.LineFault.TheVariants as F
 use Rattle.psos_script.specs.declared.cause.Cause.{Cause}
-use Rattle.psos_script.specs.declared.place.Place.{Place}
-use Rattle.psos_script.specs.declared.place.Place.TheVariants.{Outside, InBody, InUser}
+use Rattle.psos_script.specs.declared.section.Section.{Section}
+use Rattle.psos_script.specs.declared.section.Section.TheVariants.{Outside, InBody, InUser}
 use Rattle.psos_script.specs.declared.head.Head.{Head}
 use Rattle.psos_script.specs.declared.head.Head.TheVariants as H
 
 -- what is not finished: a block, or a user with the phases before the last, the requests of the last and the count of lines
-pub data Opened : Type 0 where
-  NoneOpen : Opened
-  BodyOpen : Text → List Request → Opened
-  UserOpen : Text → List (List Request) → List Request → ℕ → Opened
+pub data Pending : Type 0 where
+  NonePending : Pending
+  BodyPending : Text → List Request → Pending
+  UserPending : Text → List (List Request) → List Request → ℕ → Pending
 
 -- the labels and names so far, the blocks and users that are finished, and what is not
 pub record Read : Type 0 where
@@ -31,68 +31,68 @@ pub record Read : Type 0 where
   pub codes : List CodeBlock
   pub names : List Text
   pub users : List UserScript
-  pub now : Opened
+  pub now : Pending
 
-abbrev pub opened : Open → Opened
-opened Nothing = NoneOpen
-opened (Body label body) = BodyOpen (name_text label) body.items
-opened (Asking name phases requests count) = UserOpen (name_text name) (map (λ p. p.items) phases.items) requests.items count
+abbrev pub pending : Unfinished → Pending
+pending Nothing = NonePending
+pending (Body label body) = BodyPending (name_text label) body.items
+pending (Asking name phases requests count) = UserPending (name_text name) (map (λ p. p.items) phases.items) requests.items count
 
 -- the draft as plain lists
 abbrev pub read : Draft → Read
-read d = record { labels = d.labels; codes = d.codes.items; names = d.names; users = d.users.items; now = opened d.open }
+read d = record { labels = d.labels; codes = d.codes.items; names = d.names; users = d.users.items; now = pending d.unfinished }
 
-abbrev pub place_in : Opened → Place
-place_in NoneOpen = Outside
-place_in (BodyOpen label body) = InBody
-place_in (UserOpen name phases requests count) = InUser
+abbrev pub section_in : Pending → Section
+section_in NonePending = Outside
+section_in (BodyPending label body) = InBody
+section_in (UserPending name phases requests count) = InUser
 
-abbrev pub count_in : Opened → ℕ
-count_in NoneOpen = 0
-count_in (BodyOpen label body) = length body
-count_in (UserOpen name phases requests count) = count
+abbrev pub count_in : Pending → ℕ
+count_in NonePending = 0
+count_in (BodyPending label body) = length body
+count_in (UserPending name phases requests count) = count
 
 -- all that the fault of the next line depends on
 abbrev pub seen_in : Read → Seen
-seen_in d = record { place = place_in d.now; labels = d.labels; names = d.names; count = count_in d.now }
+seen_in d = record { section = section_in d.now; labels = d.labels; names = d.names; count = count_in d.now }
 
 -- ---- one line more
 
--- the block that is open
-abbrev pub open_codes : Opened → List CodeBlock
-open_codes NoneOpen = []
-open_codes (BodyOpen label body) = record { label = label; body = body } ∷ []
-open_codes (UserOpen name phases requests count) = []
+-- the block that is unfinished
+abbrev pub pending_codes : Pending → List CodeBlock
+pending_codes NonePending = []
+pending_codes (BodyPending label body) = record { label = label; body = body } ∷ []
+pending_codes (UserPending name phases requests count) = []
 
--- the user that is open
-abbrev pub open_users : Opened → List UserScript
-open_users NoneOpen = []
-open_users (BodyOpen label body) = []
-open_users (UserOpen name phases requests count) = record { name = name; phases = phases ++ requests ∷ [] } ∷ []
+-- the user that is unfinished
+abbrev pub pending_users : Pending → List UserScript
+pending_users NonePending = []
+pending_users (BodyPending label body) = []
+pending_users (UserPending name phases requests count) = record { name = name; phases = phases ++ requests ∷ [] } ∷ []
 
--- what is open is finished
+-- what is unfinished is finished
 abbrev pub closed : Read → Read
-closed d = record { labels = d.labels; codes = d.codes ++ open_codes d.now; names = d.names; users = d.users ++ open_users d.now; now = NoneOpen }
+closed d = record { labels = d.labels; codes = d.codes ++ pending_codes d.now; names = d.names; users = d.users ++ pending_users d.now; now = NonePending }
 
 -- one request more
-abbrev pub added : Opened → Request → Opened
-added NoneOpen r = NoneOpen
-added (BodyOpen label body) r = BodyOpen label (body ++ r ∷ [])
-added (UserOpen name phases requests count) r = UserOpen name phases (requests ++ r ∷ []) (count + 1)
+abbrev pub added : Pending → Request → Pending
+added NonePending r = NonePending
+added (BodyPending label body) r = BodyPending label (body ++ r ∷ [])
+added (UserPending name phases requests count) r = UserPending name phases (requests ++ r ∷ []) (count + 1)
 
 -- one phase more
-abbrev pub phased : Opened → Opened
-phased NoneOpen = NoneOpen
-phased (BodyOpen label body) = BodyOpen label body
-phased (UserOpen name phases requests count) = UserOpen name (phases ++ requests ∷ []) [] (count + 1)
+abbrev pub phased : Pending → Pending
+phased NonePending = NonePending
+phased (BodyPending label body) = BodyPending label body
+phased (UserPending name phases requests count) = UserPending name (phases ++ requests ∷ []) [] (count + 1)
 
 -- the request of a row, where there is one
-abbrev pub added_row : Opened → Result Request Cause → Opened
+abbrev pub added_row : Pending → Result Request Cause → Pending
 added_row o (Ok r) = added o r
 added_row o (Err c) = o
 
--- something else is open
-abbrev pub with_now : Read → Opened → Read
+-- something else is unfinished
+abbrev pub with_now : Read → Pending → Read
 with_now d o = record { labels = d.labels; codes = d.codes; names = d.names; users = d.users; now = o }
 
 -- a block is finished
@@ -105,11 +105,11 @@ with_asker d name phases = record { labels = d.labels; codes = d.codes; names = 
 
 -- a block begins
 abbrev pub with_code : Read → Text → Read
-with_code d label = record { labels = d.labels ++ label ∷ []; codes = d.codes; names = d.names; users = d.users; now = BodyOpen label [] }
+with_code d label = record { labels = d.labels ++ label ∷ []; codes = d.codes; names = d.names; users = d.users; now = BodyPending label [] }
 
 -- a user begins
 abbrev pub with_user : Read → Text → Read
-with_user d name = record { labels = d.labels; codes = d.codes; names = d.names ++ name ∷ []; users = d.users; now = UserOpen name [] [] 0 }
+with_user d name = record { labels = d.labels; codes = d.codes; names = d.names ++ name ∷ []; users = d.users; now = UserPending name [] [] 0 }
 
 -- after a line without a fault that has this first word
 abbrev pub taken : Read → Head → List Text → Read
@@ -132,7 +132,7 @@ after_line d (w ∷ ws) = if get_or w 0 0 == 35 then d else after_headed d (head
 
 -- before the first line
 abbrev pub nothing_read : Read
-nothing_read = record { labels = []; codes = []; names = []; users = []; now = NoneOpen }
+nothing_read = record { labels = []; codes = []; names = []; users = []; now = NonePending }
 
 -- the first fault of the lines that are left
 abbrev pub fault_after : ℕ → Read → List (List ℕ) → Option (ℕ × Cause)

@@ -14,8 +14,8 @@ use Rattle.psos_script.specs.declared.verb.Verb.{Verb}
 use Rattle.psos_script.specs.declared.verb.Verb.TheVariants as V
 use Rattle.psos_script.specs.declared.head.Head.{Head}
 use Rattle.psos_script.specs.declared.head.Head.TheVariants.{Code, End, User, Phase, Asks}
-use Rattle.psos_script.specs.declared.place.Place.{Place}
-use Rattle.psos_script.specs.declared.place.Place.TheVariants.{Outside, InBody, InUser}
+use Rattle.psos_script.specs.declared.section.Section.{Section}
+use Rattle.psos_script.specs.declared.section.Section.TheVariants.{Outside, InBody, InUser}
 
 -- ---- what the lines before a line say; nearest first, skipped ones left out
 
@@ -28,18 +28,18 @@ abbrev pub second : List Text → Text
 second ws = get_or ws 1 []
 
 -- where a line stands that follows one with this first word
-abbrev pub place_after : Option Head → Place → Place
-place_after (Some Code) p = InBody
-place_after (Some End) p = Outside
-place_after (Some User) p = InUser
-place_after (Some Phase) p = p
-place_after (Some (Asks v)) p = p
-place_after None p = p
+abbrev pub section_after : Option Head → Section → Section
+section_after (Some Code) p = InBody
+section_after (Some End) p = Outside
+section_after (Some User) p = InUser
+section_after (Some Phase) p = p
+section_after (Some (Asks v)) p = p
+section_after None p = p
 
 -- by the nearest `code`, `end` or `user`
-abbrev pub place : List (List Text) → Place
-place [] = Outside
-place (ws ∷ past) = place_after (head_of (first ws)) (place past)
+abbrev pub section : List (List Text) → Section
+section [] = Outside
+section (ws ∷ past) = section_after (head_of (first ws)) (section past)
 
 -- the labels behind such a line
 abbrev pub labels_after : Option Head → Text → List Text → List Text
@@ -85,19 +85,19 @@ count (ws ∷ past) = count_after (head_of (first ws)) (count past)
 
 -- all that a line's fault depends on
 pub record Seen : Type 0 where
-  pub place : Place
+  pub section : Section
   pub labels : List Text
   pub names : List Text
   pub count : ℕ
 
 -- what these lines say
 abbrev pub seen : List (List Text) → Seen
-seen past = record { place = place past; labels = labels past; names = names past; count = count past }
+seen past = record { section = section past; labels = labels past; names = names past; count = count past }
 
 -- ---- the causes
 
 -- a request or `end` outside, `end` in a user, `phase` not in a user
-unfoldable pub is_outside : Head → Place → Bool
+unfoldable pub is_outside : Head → Section → Bool
 is_outside (Asks v) Outside = true
 is_outside (Asks v) InBody = false
 is_outside (Asks v) InUser = false
@@ -111,7 +111,7 @@ is_outside Code p = false
 is_outside User p = false
 
 -- `user` or `code` inside a block
-unfoldable pub is_no_end : Head → Place → Bool
+unfoldable pub is_no_end : Head → Section → Bool
 is_no_end Code InBody = true
 is_no_end Code Outside = false
 is_no_end Code InUser = false
@@ -135,8 +135,8 @@ is_late_code End names = false
 is_late_code Phase names = false
 is_late_code (Asks v) names = false
 
--- the place is in a code block
-unfoldable pub in_body : Place → Bool
+-- in a code block
+unfoldable pub in_body : Section → Bool
 in_body InBody = true
 in_body InUser = false
 in_body Outside = false
@@ -165,7 +165,7 @@ empty_cause End n = if n == 0 then Some C.EmptyCode else None
 empty_cause h n = None
 
 -- the limit on lines
-abbrev pub line_limit : Place → ℕ
+abbrev pub line_limit : Section → ℕ
 line_limit InBody = 16
 line_limit InUser = 240
 line_limit Outside = 240
@@ -174,8 +174,8 @@ line_limit Outside = 240
 unfoldable pub many_cause : Head → Seen → Option Cause
 many_cause User s = if nat_le 8 (length s.names) then Some C.TooManyUsers else None
 many_cause Code s = if nat_le 64 (length s.labels) then Some C.TooManyCodes else None
-many_cause Phase s = if nat_le (line_limit s.place) s.count then Some C.TooManyLines else None
-many_cause (Asks v) s = if nat_le (line_limit s.place) s.count then Some C.TooManyLines else None
+many_cause Phase s = if nat_le (line_limit s.section) s.count then Some C.TooManyLines else None
+many_cause (Asks v) s = if nat_le (line_limit s.section) s.count then Some C.TooManyLines else None
 many_cause End s = None
 
 -- the first cause that holds
@@ -198,8 +198,8 @@ row_limit_cause s v ws limit =
 -- the causes of a line with this first word, behind `unknown word`
 unfoldable pub head_cause : Seen → Head → List Text → Option Cause
 head_cause s h ws =
-    where_true (is_outside h s.place) C.Outside
-    or (where_true (is_no_end h s.place) C.NoEnd
+    where_true (is_outside h s.section) C.Outside
+    or (where_true (is_no_end h s.section) C.NoEnd
     or (where_true (is_late_code h s.names) C.CodeAfterUser
     or (operands_cause (classes h) ws
     or (known_cause h s ws
@@ -224,7 +224,7 @@ line_cause s line =
 
 -- what is missing after the last line
 unfoldable pub end_cause : Seen → Option Cause
-end_cause s = where_true (in_body s.place) C.NoEnd or where_true (not (some_names s.names)) C.NoUser
+end_cause s = where_true (in_body s.section) C.NoEnd or where_true (not (some_names s.names)) C.NoUser
 
 -- ---- the first fault
 

@@ -1,4 +1,7 @@
 // Why a line is faulty.
+ghost use Rattle.std.specs.Prelude.{◌≡◌, ◌≤◌, length};
+ghost use Rattle.psos_script.specs.CauseText.{cause_text};
+
 use crate::class::Class;
 
 /// Why a line of a script is faulty, in the order in which a line is tried.
@@ -40,4 +43,33 @@ pub enum Cause {
     TooManyLines,
     /// There is no user. The line is the one behind the last.
     NoUser,
+}
+
+impl Cause {
+    /// The text of the cause, as in `line 2: register missing` behind the colon and the space. It takes no memory.
+    pub fn text(self) -> &'static [u8]
+        ensures text { result.now ≡ cause_text self }
+        ensures short { length result.now ≤ 16 }
+    {
+        match self {
+            Cause::Missing(class) => class.missing_text(),
+            Cause::Wrong(class) => class.wrong_text(),
+            Cause::InputTooLong => b"input too long",
+            Cause::LineTooLong => b"line too long",
+            Cause::BadByte => b"bad byte",
+            Cause::UnknownWord => b"unknown word",
+            Cause::Outside => b"outside",
+            Cause::NoEnd => b"no end",
+            Cause::CodeAfterUser => b"code after user",
+            Cause::TooManyWords => b"too many words",
+            Cause::UserTwice => b"user twice",
+            Cause::LabelTwice => b"label twice",
+            Cause::UnknownLabel => b"unknown label",
+            Cause::EmptyCode => b"empty code",
+            Cause::TooManyUsers => b"too many users",
+            Cause::TooManyCodes => b"too many codes",
+            Cause::TooManyLines => b"too many lines",
+            Cause::NoUser => b"no user",
+        }
+    }
 }

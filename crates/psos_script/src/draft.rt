@@ -1,4 +1,16 @@
 // What the lines so far say.
+#![tactic(auto, unfolding(
+// the cause of a line
+crate::specs::Fault::head_cause,
+// where it may not stand
+crate::specs::Fault::is_outside, crate::specs::Fault::is_no_end, crate::specs::Fault::is_late_code,
+// its operands
+crate::specs::Fault::operands_cause, crate::specs::Values::none_left,
+// what stood before
+crate::specs::Fault::known_cause, crate::specs::Fault::empty_cause, crate::specs::Fault::many_cause,
+// what is missing behind the last
+crate::specs::Fault::end_cause, crate::specs::Fault::in_body))]
+
 ghost use Rattle.std.specs.Prelude.{◌≡◌, ◌<◌, ◌≤◌, [], ◌∷◌, ◌++◌, length, map, OnOk, IfOk};
 ghost use Rattle.psos_text.specs.Lines.{words_of};
 ghost use Rattle.psos_text.specs.Name.{name_text};
@@ -9,10 +21,10 @@ ghost use Rattle.psos_script.specs.declared.head.Head.TheVariants as Head;
 use crate::cause::Cause;
 use crate::line_fault::LineFault;
 use crate::name_list::NameList;
-use crate::open::Open;
 use crate::operands::{end, only_label, only_name};
-use crate::place::Place;
 use crate::rows::request;
+use crate::section::Section;
+use crate::unfinished::Unfinished;
 use crate::verb::Verb;
 use psos_calls::limits::{MOST_BODY, MOST_CODES, MOST_LINES, MOST_USERS};
 use psos_calls::{Code, Request, Script, UserText};
@@ -27,7 +39,7 @@ pub(crate) struct Draft {
     codes: Vec<Code>,
     names: NameList,
     users: Vec<UserText>,
-    open: Open,
+    unfinished: Unfinished,
 }
 
 impl Draft {
@@ -40,18 +52,17 @@ impl Draft {
             codes: Vec::new(alloc),
             names: NameList::new(alloc),
             users: Vec::new(alloc),
-            open: Open::Nothing,
+            unfinished: Unfinished::Nothing,
         }
     }
 
     // The line `code`, behind its first word.
-    #[tactic(auto, unfolding(crate::specs::Fault::head_cause, crate::specs::Fault::is_outside, crate::specs::Fault::is_no_end, crate::specs::Fault::is_late_code, crate::specs::Fault::known_cause, crate::specs::Fault::empty_cause, crate::specs::Fault::many_cause))]
     pub(crate) fn code_line(&mut self, alloc: Global, text: &[u8]) -> Result<(), LineFault>
         ensures { Reads (head_cause (seen_in (read self.old)) Head.Code (words_of text.now)) (taken (read self.old) Head.Code (words_of text.now)) result (read self.new) }
     {
-        match self.open.place() {
-            Place::InBody => return Err(LineFault::Cause(Cause::NoEnd)),
-            Place::Outside | Place::InUser => {}
+        match self.unfinished.section() {
+            Section::InBody => return Err(LineFault::Cause(Cause::NoEnd)),
+            Section::Outside | Section::InUser => {}
         }
         if self.names.len() > 0 {
             return Err(LineFault::Cause(Cause::CodeAfterUser));
@@ -76,7 +87,7 @@ impl Draft {
         ensures { OnOk result (read self.new ≡ with_code (read self.old) (name_text label)) }
     {
         self.labels.push(label)?;
-        self.open = Open::Body {
+        self.unfinished = Unfinished::Body {
             label,
             body: Vec::new(alloc),
         };
@@ -84,13 +95,12 @@ impl Draft {
     }
 
     // The line `user`, behind its first word.
-    #[tactic(auto, unfolding(crate::specs::Fault::head_cause, crate::specs::Fault::is_outside, crate::specs::Fault::is_no_end, crate::specs::Fault::is_late_code, crate::specs::Fault::known_cause, crate::specs::Fault::empty_cause, crate::specs::Fault::many_cause))]
     pub(crate) fn user_line(&mut self, alloc: Global, text: &[u8]) -> Result<(), LineFault>
         ensures { Reads (head_cause (seen_in (read self.old)) Head.User (words_of text.now)) (taken (read self.old) Head.User (words_of text.now)) result (read self.new) }
     {
-        match self.open.place() {
-            Place::InBody => return Err(LineFault::Cause(Cause::NoEnd)),
-            Place::Outside | Place::InUser => {}
+        match self.unfinished.section() {
+            Section::InBody => return Err(LineFault::Cause(Cause::NoEnd)),
+            Section::Outside | Section::InUser => {}
         }
         let name = match only_name(text) {
             Ok(name) => name,
@@ -106,14 +116,14 @@ impl Draft {
         Ok(())
     }
 
-    // What is open ends, and a user begins. It fails only for want of memory.
+    // What is unfinished ends, and a user begins. It fails only for want of memory.
     fn begin_user(&mut self, alloc: Global, name: Name) -> Result<(), AllocError>
         requires room { length (read self.old).names < 64 }
         ensures { OnOk result (read self.new ≡ with_user (closed (read self.old)) (name_text name)) }
     {
         self.close()?;
         self.names.push(name)?;
-        self.open = Open::Asking {
+        self.unfinished = Unfinished::Asking {
             name,
             phases: Vec::new(alloc),
             requests: Vec::new(alloc),
@@ -123,18 +133,17 @@ impl Draft {
     }
 
     // The line `end`, behind its first word.
-    #[tactic(auto, unfolding(crate::specs::Fault::head_cause, crate::specs::Fault::is_outside, crate::specs::Fault::is_no_end, crate::specs::Fault::is_late_code, crate::specs::Fault::operands_cause, crate::specs::Fault::known_cause, crate::specs::Fault::empty_cause, crate::specs::Fault::many_cause, crate::specs::Values::none_left))]
     pub(crate) fn end_line(&mut self, text: &[u8]) -> Result<(), LineFault>
         ensures { Reads (head_cause (seen_in (read self.old)) Head.End (words_of text.now)) (taken (read self.old) Head.End (words_of text.now)) result (read self.new) }
     {
-        match self.open.place() {
-            Place::Outside => Err(LineFault::Cause(Cause::Outside)),
-            Place::InUser => Err(LineFault::Cause(Cause::Outside)),
-            Place::InBody => {
+        match self.unfinished.section() {
+            Section::Outside => Err(LineFault::Cause(Cause::Outside)),
+            Section::InUser => Err(LineFault::Cause(Cause::Outside)),
+            Section::InBody => {
                 if let Err(c) = end(text) {
                     return Err(LineFault::Cause(c));
                 }
-                if self.open.count() == 0 {
+                if self.unfinished.count() == 0 {
                     return Err(LineFault::Cause(Cause::EmptyCode));
                 }
                 self.close()?;
@@ -144,35 +153,33 @@ impl Draft {
     }
 
     // The line `phase`, behind its first word.
-    #[tactic(auto, unfolding(crate::specs::Fault::head_cause, crate::specs::Fault::is_outside, crate::specs::Fault::is_no_end, crate::specs::Fault::is_late_code, crate::specs::Fault::operands_cause, crate::specs::Fault::known_cause, crate::specs::Fault::empty_cause, crate::specs::Fault::many_cause, crate::specs::Values::none_left))]
     pub(crate) fn phase_line(&mut self, alloc: Global, text: &[u8]) -> Result<(), LineFault>
         ensures { Reads (head_cause (seen_in (read self.old)) Head.Phase (words_of text.now)) (taken (read self.old) Head.Phase (words_of text.now)) result (read self.new) }
     {
-        match self.open.place() {
-            Place::Outside => Err(LineFault::Cause(Cause::Outside)),
-            Place::InBody => Err(LineFault::Cause(Cause::Outside)),
-            Place::InUser => {
+        match self.unfinished.section() {
+            Section::Outside => Err(LineFault::Cause(Cause::Outside)),
+            Section::InBody => Err(LineFault::Cause(Cause::Outside)),
+            Section::InUser => {
                 if let Err(c) = end(text) {
                     return Err(LineFault::Cause(c));
                 }
-                if self.open.count() >= MOST_LINES {
+                if self.unfinished.count() >= MOST_LINES {
                     return Err(LineFault::Cause(Cause::TooManyLines));
                 }
-                self.open.phase(alloc)?;
+                self.unfinished.phase(alloc)?;
                 Ok(())
             }
         }
     }
 
     // A request's line, behind its first word.
-    #[tactic(auto, unfolding(crate::specs::Fault::head_cause, crate::specs::Fault::is_outside, crate::specs::Fault::is_no_end, crate::specs::Fault::is_late_code, crate::specs::Fault::empty_cause, crate::specs::Fault::many_cause))]
     pub(crate) fn request_line(&mut self, verb: Verb, text: &[u8]) -> Result<(), LineFault>
         ensures { Reads (head_cause (seen_in (read self.old)) (Head.Asks verb) (words_of text.now)) (taken (read self.old) (Head.Asks verb) (words_of text.now)) result (read self.new) }
     {
-        match self.open.place() {
-            Place::Outside => Err(LineFault::Cause(Cause::Outside)),
-            Place::InBody => self.add_request(verb, text, MOST_BODY),
-            Place::InUser => self.add_request(verb, text, MOST_LINES),
+        match self.unfinished.section() {
+            Section::Outside => Err(LineFault::Cause(Cause::Outside)),
+            Section::InBody => self.add_request(verb, text, MOST_BODY),
+            Section::InUser => self.add_request(verb, text, MOST_LINES),
         }
     }
 
@@ -184,23 +191,23 @@ impl Draft {
         match request(verb, &self.labels, text) {
             Err(c) => Err(LineFault::Cause(c)),
             Ok(r) => {
-                if self.open.count() >= limit {
+                if self.unfinished.count() >= limit {
                     return Err(LineFault::Cause(Cause::TooManyLines));
                 }
-                self.open.add(r)?;
+                self.unfinished.add(r)?;
                 Ok(())
             }
         }
     }
 
-    // What is open ends. It fails only for want of memory.
+    // What is unfinished ends. It fails only for want of memory.
     fn close(&mut self) -> Result<(), AllocError>
         ensures { OnOk result (read self.new ≡ closed (read self.old)) }
     {
-        match std::mem::replace(&mut self.open, Open::Nothing) {
-            Open::Nothing => Ok(()),
-            Open::Body { label, body } => self.push_code(label, body),
-            Open::Asking {
+        match std::mem::replace(&mut self.unfinished, Unfinished::Nothing) {
+            Unfinished::Nothing => Ok(()),
+            Unfinished::Body { label, body } => self.push_code(label, body),
+            Unfinished::Asking {
                 name,
                 phases,
                 requests,
@@ -231,13 +238,12 @@ impl Draft {
     }
 
     // What is missing after the last line.
-    #[tactic(auto, unfolding(crate::specs::Fault::end_cause, crate::specs::Fault::in_body))]
     pub(crate) fn missing(&self) -> Option<Cause>
         ensures { result ≡ missing_cause (seen_in (read self.now)) }
     {
-        match self.open.place() {
-            Place::InBody => return Some(Cause::NoEnd),
-            Place::Outside | Place::InUser => {}
+        match self.unfinished.section() {
+            Section::InBody => return Some(Cause::NoEnd),
+            Section::Outside | Section::InUser => {}
         }
         if self.names.len() == 0 {
             return Some(Cause::NoUser);

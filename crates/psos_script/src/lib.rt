@@ -10,14 +10,11 @@ mod laws;
 mod line_fault;
 mod lines;
 mod name_list;
-mod open;
 mod operands;
-mod place;
 mod rows;
 mod script;
-#[cfg(test)]
-mod tests;
-mod text;
+mod section;
+mod unfinished;
 mod verb;
 
 pub use cause::Cause;
@@ -25,4 +22,3 @@ pub use class::Class;
 pub use fault::{ReadFault, ScriptFault};
 pub use laws::{no_fault_is_a_script, one_script_only, the_least_fault_is_reported};
 pub use script::read_script;
-pub use text::put_cause;

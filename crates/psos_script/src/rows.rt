@@ -80,15 +80,16 @@ fn number_between(text: &[u8]) -> Result<(u8, u64, u8), Cause>
     Ok((a, b, c))
 }
 
-fn registers_numbers(text: &[u8]) -> Result<(u8, u8, u64, u64), Cause>
-    ensures { seen_ok (λ p. (p.0, (p.1, (p.2, (p.3, tt))))) result ≡ values_of (Class.Register ∷ Class.Register ∷ Class.Number ∷ Class.Number ∷ []) (words_of text.now) }
+// The request `window` of the operands.
+fn window_request(text: &[u8]) -> Result<Request, Cause>
+    ensures { result ≡ row_of [] Verb.Window (words_of text.now) }
 {
-    let (a, rest) = register(text)?;
-    let (b, rest) = register(rest)?;
-    let (c, rest) = number(rest)?;
-    let (d, rest) = number(rest)?;
+    let (rd, rest) = register(text)?;
+    let (rs, rest) = register(rest)?;
+    let (base, rest) = number(rest)?;
+    let (len, rest) = number(rest)?;
     end(rest)?;
-    Ok((a, b, c, d))
+    Ok(Request::Window { rd, rs, base, len })
 }
 
 fn registers_name(text: &[u8]) -> Result<(u8, u8, Name), Cause>
@@ -120,39 +121,59 @@ fn register_name(text: &[u8]) -> Result<(u8, Name), Cause>
     Ok((a, b))
 }
 
-fn segment_operands(text: &[u8]) -> Result<(u8, u8, Name, u64, u8), Cause>
-    ensures { seen_ok (λ p. (p.0, (p.1, (p.2, (p.3, (p.4, tt)))))) result ≡ values_of (Class.Register ∷ Class.Register ∷ Class.Name ∷ Class.Number ∷ Class.Guard ∷ []) (words_of text.now) }
+// The request `mkseg` of the operands.
+fn segment_request(text: &[u8]) -> Result<Request, Cause>
+    ensures { result ≡ row_of [] Verb.MkSeg (words_of text.now) }
 {
-    let (a, rest) = register(text)?;
-    let (b, rest) = register(rest)?;
-    let (c, rest) = name(rest)?;
-    let (d, rest) = number(rest)?;
-    let (e, rest) = guard(rest)?;
+    let (rd, rest) = register(text)?;
+    let (rs, rest) = register(rest)?;
+    let (name, rest) = name(rest)?;
+    let (len, rest) = number(rest)?;
+    let (guard, rest) = guard(rest)?;
     end(rest)?;
-    Ok((a, b, c, d, e))
+    Ok(Request::MkSeg {
+        rd,
+        rs,
+        name,
+        len,
+        guard,
+    })
 }
 
-fn directory_operands(text: &[u8]) -> Result<(u8, u8, Name, u8), Cause>
-    ensures { seen_ok (λ p. (p.0, (p.1, (p.2, (p.3, tt))))) result ≡ values_of (Class.Register ∷ Class.Register ∷ Class.Name ∷ Class.Guard ∷ []) (words_of text.now) }
+// The request `mkdir` of the operands.
+fn directory_request(text: &[u8]) -> Result<Request, Cause>
+    ensures { result ≡ row_of [] Verb.MkDir (words_of text.now) }
 {
-    let (a, rest) = register(text)?;
-    let (b, rest) = register(rest)?;
-    let (c, rest) = name(rest)?;
-    let (d, rest) = guard(rest)?;
+    let (rd, rest) = register(text)?;
+    let (rs, rest) = register(rest)?;
+    let (name, rest) = name(rest)?;
+    let (guard, rest) = guard(rest)?;
     end(rest)?;
-    Ok((a, b, c, d))
+    Ok(Request::MkDir {
+        rd,
+        rs,
+        name,
+        guard,
+    })
 }
 
-fn object_operands(text: &[u8]) -> Result<(u8, u8, u8, Name, u64), Cause>
-    ensures { seen_ok (λ p. (p.0, (p.1, (p.2, (p.3, (p.4, tt)))))) result ≡ values_of (Class.Register ∷ Class.Register ∷ Class.Register ∷ Class.Name ∷ Class.Number ∷ []) (words_of text.now) }
+// The request `mkobj` of the operands.
+fn object_request(text: &[u8]) -> Result<Request, Cause>
+    ensures { result ≡ row_of [] Verb.MkObj (words_of text.now) }
 {
-    let (a, rest) = register(text)?;
-    let (b, rest) = register(rest)?;
-    let (c, rest) = register(rest)?;
-    let (d, rest) = name(rest)?;
-    let (e, rest) = number(rest)?;
+    let (rd, rest) = register(text)?;
+    let (rt, rest) = register(rest)?;
+    let (rs, rest) = register(rest)?;
+    let (name, rest) = name(rest)?;
+    let (len, rest) = number(rest)?;
     end(rest)?;
-    Ok((a, b, c, d, e))
+    Ok(Request::MkObj {
+        rd,
+        rt,
+        rs,
+        name,
+        len,
+    })
 }
 
 fn code_operands(text: &[u8]) -> Result<(u8, u8, Name, Name, u8), Cause>
@@ -190,119 +211,34 @@ pub(crate) fn request(verb: Verb, labels: &NameList, text: &[u8]) -> Result<Requ
     ensures { result ≡ row_of labels.now verb (words_of text.now) }
 {
     match verb {
-        Verb::Mint => {
-            let rd = one_register(text)?;
-            Ok(Request::Mint { rd })
-        }
-        Verb::Restrict => {
-            let (rd, rs, keep) = registers_hex(text)?;
-            Ok(Request::Restrict { rd, rs, keep })
-        }
-        Verb::Set => {
-            let (rd, n) = register_number(text)?;
-            Ok(Request::Set { rd, n })
-        }
-        Verb::Move => {
-            let (rd, rs) = two_registers(text)?;
-            Ok(Request::Move { rd, rs })
-        }
-        Verb::Add => {
-            let (rd, ra, rb) = three_registers(text)?;
-            Ok(Request::Add { rd, ra, rb })
-        }
-        Verb::Read => {
-            let (rd, rs, n) = registers_number(text)?;
-            Ok(Request::Read { rd, rs, n })
-        }
-        Verb::Write => {
-            let (rs, n, rv) = number_between(text)?;
-            Ok(Request::Write { rs, n, rv })
-        }
-        Verb::Window => {
-            let (rd, rs, base, len) = registers_numbers(text)?;
-            Ok(Request::Window { rd, rs, base, len })
-        }
-        Verb::Length => {
-            let (rd, rs) = two_registers(text)?;
-            Ok(Request::Length { rd, rs })
-        }
-        Verb::Lookup => {
-            let (rd, rs, name) = registers_name(text)?;
-            Ok(Request::Lookup { rd, rs, name })
-        }
-        Verb::Bind => {
-            let (rs, name, rv) = name_between(text)?;
-            Ok(Request::Bind { rs, name, rv })
-        }
-        Verb::Unbind => {
-            let (rs, name) = register_name(text)?;
-            Ok(Request::Unbind { rs, name })
-        }
-        Verb::List => {
-            let rs = one_register(text)?;
-            Ok(Request::List { rs })
-        }
-        Verb::Impl => {
-            let (rd, rt, ro) = three_registers(text)?;
-            Ok(Request::Impl { rd, rt, ro })
-        }
-        Verb::MkSeg => {
-            let (rd, rs, name, len, guard) = segment_operands(text)?;
-            Ok(Request::MkSeg {
-                rd,
-                rs,
-                name,
-                len,
-                guard,
-            })
-        }
-        Verb::MkDir => {
-            let (rd, rs, name, guard) = directory_operands(text)?;
-            Ok(Request::MkDir {
-                rd,
-                rs,
-                name,
-                guard,
-            })
-        }
-        Verb::MkType => {
-            let (rd, rs, name) = registers_name(text)?;
-            Ok(Request::MkType { rd, rs, name })
-        }
-        Verb::MkObj => {
-            let (rd, rt, rs, name, len) = object_operands(text)?;
-            Ok(Request::MkObj {
-                rd,
-                rt,
-                rs,
-                name,
-                len,
-            })
-        }
-        Verb::Delete => {
-            let (rs, name) = register_name(text)?;
-            Ok(Request::Delete { rs, name })
-        }
-        Verb::Send => {
-            let (rp, rv) = two_registers(text)?;
-            Ok(Request::Send { rp, rv })
-        }
-        Verb::Recv => {
-            let rd = one_register(text)?;
-            Ok(Request::Recv { rd })
-        }
-        Verb::Call => {
-            let rp = one_register(text)?;
-            Ok(Request::Call { rp })
-        }
-        Verb::Path => {
-            let rs = one_register(text)?;
-            Ok(Request::Path { rs })
-        }
-        Verb::Find => {
-            let (rd, name) = register_name(text)?;
-            Ok(Request::Find { rd, name })
-        }
+        Verb::Mint => one_register(text).map(|rd| Request::Mint { rd }),
+        Verb::Restrict => registers_hex(text).map(|(rd, rs, keep)| Request::Restrict {
+            rd,
+            rs,
+            keep,
+        }),
+        Verb::Set => register_number(text).map(|(rd, n)| Request::Set { rd, n }),
+        Verb::Move => two_registers(text).map(|(rd, rs)| Request::Move { rd, rs }),
+        Verb::Add => three_registers(text).map(|(rd, ra, rb)| Request::Add { rd, ra, rb }),
+        Verb::Read => registers_number(text).map(|(rd, rs, n)| Request::Read { rd, rs, n }),
+        Verb::Write => number_between(text).map(|(rs, n, rv)| Request::Write { rs, n, rv }),
+        Verb::Window => window_request(text),
+        Verb::Length => two_registers(text).map(|(rd, rs)| Request::Length { rd, rs }),
+        Verb::Lookup => registers_name(text).map(|(rd, rs, name)| Request::Lookup { rd, rs, name }),
+        Verb::Bind => name_between(text).map(|(rs, name, rv)| Request::Bind { rs, name, rv }),
+        Verb::Unbind => register_name(text).map(|(rs, name)| Request::Unbind { rs, name }),
+        Verb::List => one_register(text).map(|rs| Request::List { rs }),
+        Verb::Impl => three_registers(text).map(|(rd, rt, ro)| Request::Impl { rd, rt, ro }),
+        Verb::MkSeg => segment_request(text),
+        Verb::MkDir => directory_request(text),
+        Verb::MkType => registers_name(text).map(|(rd, rs, name)| Request::MkType { rd, rs, name }),
+        Verb::MkObj => object_request(text),
+        Verb::Delete => register_name(text).map(|(rs, name)| Request::Delete { rs, name }),
+        Verb::Send => two_registers(text).map(|(rp, rv)| Request::Send { rp, rv }),
+        Verb::Recv => one_register(text).map(|rd| Request::Recv { rd }),
+        Verb::Call => one_register(text).map(|rp| Request::Call { rp }),
+        Verb::Path => one_register(text).map(|rs| Request::Path { rs }),
+        Verb::Find => register_name(text).map(|(rd, name)| Request::Find { rd, name }),
         Verb::MkCode => code_request(labels, text),
     }
 }

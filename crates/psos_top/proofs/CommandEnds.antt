@@ -1,16 +1,22 @@
 -- How a command ends, by what it came to.
 use Rattle.std.proofs.Common.{◌≡◌, ℕ, ◌<◌, ◌≤◌, List, [], ◌++◌, length, Option, Some, None, ◌⊎◌, inl, inr, sym, ap, ◌∙◌, subst, arith, append-nil}
-use Rattle.std.specs.Prelude.{IfSome, IsSomeAnd}
+use Rattle.std.specs.Prelude.{Result, Ok, Err, IfOk, IfErr, IfSome, IsSomeAnd}
 use Rattle.std.specs.Io.KnownBytes.{Consumes, IsAtEnd, Keeps}
 use Rattle.psos_io.specs.Causes.{Rose}
 use Rattle.psos_calls.specs.declared.entry.Entry.{Entry}
-use Rattle.psos_calls.specs.Language.Script.{Script}
+use Rattle.psos_calls.specs.Language.Script.{Script, IsWellFormed}
 use Rattle.psos_model.specs.Text.Spelling.{IsScript}
 use Rattle.psos_model.specs.Run.{IsComplete}
 use Rattle.psos_model.specs.Replay.{System, order_of}
 use Rattle.psos_script.proofs.Outcome.{one_script}
+use Rattle.psos_script.specs.declared.fault.ReadFault.{ReadFault}
+use Rattle.psos_script.specs.declared.fault.ReadFault.TheVariants as R
+use Rattle.psos_script.specs.Answers.{IsFirst}
+use Rattle.psos_script.specs.Answers.{SpellsNone as ReadsNone}
+use Rattle.psos_script.specs.Fault.{fault_of}
 use Rattle.psos_top.specs.declared.command.Command.{Command}
-use Rattle.psos_top.specs.Outcome.{Stream, Given, Holds, HoldsNone, SpellsNone, WasRead, IsRefused, IsRunStatus, HasNoRun, IsNoRun, IsBroken, IsUnfinished, RunEnds, Ends}
+use Rattle.psos_top.specs.Outcome.{Stream, Given, Holds, HoldsNone, SpellsNone, WasRead, IsRefused, IsRunStatus, HasNoRun, IsNoRun, IsBroken, IsUnfinished, EndsRun, EndsOnFault, Ends, HandsStoreBack}
+use Rattle.psos_top.proofs.FirstFault.{stands}
 use Rattle.psos_top.specs.Orders.{IsRunBy}
 
 -- ---- what an input holds
@@ -46,38 +52,48 @@ was_read (Some xs) (Some rest) bytes s read end is =
 
 -- ---- the ends
 
--- one of two statuses is no other
-neither : (n a b status : ℕ) → (status ≡ a) ⊎ (status ≡ b) → (n ≡ a → ⊥) → (n ≡ b → ⊥) → status ≡ n → ⊥
-neither n a b status (inl first) not_a not_b is = not_a (omega (arith, first, is))
-neither n a b status (inr second) not_a not_b is = not_b (omega (arith, second, is))
-
--- the bytes are no script: with status 2, or for want of memory with 6
-pub refused_ends : (command : Command) (input out : Stream) (given : Given) → (given.status ≡ 2) ⊎ (given.status ≡ 6)
-    → (given.status ≡ 2 → IsRefused input.before out.before out.now out.faults_before out.faults_now) → (given.status ≡ 6 → Keeps out.before out.now)
-    → SpellsNone input.before → IsNoRun given.entries given.left → input.faults_before ≤ input.faults_now → out.faults_before ≤ out.faults_now → Ends command input out given
-refused_ends command input out given which refused memory spells_none none input_later out_later = record {
-  which = status which;
-  printed = λ h. absurd (neither 0 2 6 given.status which (omega arith) (omega arith) h);
-  refused = refused;
-  read_fault = λ h. absurd (neither 3 2 6 given.status which (omega arith) (omega arith) h);
-  read_fault_line = λ h. absurd (neither 3 2 6 given.status which (omega arith) (omega arith) h);
-  write_fault = λ h. absurd (neither 4 2 6 given.status which (omega arith) (omega arith) h);
-  cut = λ h. absurd (neither 4 2 6 given.status which (omega arith) (omega arith) h);
-  memory = λ h. inl (memory h);
-  no_script = record { refuses = λ held calm. which };
-  complete = record { runs = λ s held calm quiet. absurd (not_held input.before s held spells_none) };
+-- the bytes are no script
+refused_ends : (command : Command) (input out : Stream) (given : Given) → given.status ≡ 2
+    → IsRefused input.before out.before out.now out.faults_before out.faults_now
+    → IsNoRun given.entries given.left → input.faults_before ≤ input.faults_now → out.faults_before ≤ out.faults_now → Ends command input out given
+refused_ends command input out given is refused none input_later out_later = record {
+  which = inr (inl is);
+  printed = λ h. absurd (omega (arith, is, h));
+  refused = λ h. refused;
+  read_fault = λ h. absurd (omega (arith, is, h));
+  read_fault_line = λ h. absurd (omega (arith, is, h));
+  write_fault = λ h. absurd (omega (arith, is, h));
+  cut = λ h. absurd (omega (arith, is, h));
+  memory = λ h. absurd (omega (arith, is, h));
+  no_script = record { refuses = λ held calm. inl is };
+  complete = record { runs = λ s held calm quiet. absurd (not_held input.before s held refused.none) };
   none = λ h. none;
   input_later = input_later;
   out_later = out_later;
 }
-  where
-    status : (given.status ≡ 2) ⊎ (given.status ≡ 6) → IsRunStatus given.status
-    status (inl two) = inr (inl two)
-    status (inr six) = inr (inr (inr (inr six)))
+
+-- memory ran out, and nothing was written
+memory_ends : (command : Command) (input out : Stream) (given : Given) → given.status ≡ 6 → Keeps out.before out.now
+    → IsNoRun given.entries given.left → input.faults_before ≤ input.faults_now → out.faults_before ≤ out.faults_now → Ends command input out given
+memory_ends command input out given is keeps none input_later out_later = record {
+  which = inr (inr (inr (inr is)));
+  printed = λ h. absurd (omega (arith, is, h));
+  refused = λ h. absurd (omega (arith, is, h));
+  read_fault = λ h. absurd (omega (arith, is, h));
+  read_fault_line = λ h. absurd (omega (arith, is, h));
+  write_fault = λ h. absurd (omega (arith, is, h));
+  cut = λ h. absurd (omega (arith, is, h));
+  memory = λ h. inl keeps;
+  no_script = record { refuses = λ held calm. inr is };
+  complete = record { runs = λ s held calm quiet. inr is };
+  none = λ h. none;
+  input_later = input_later;
+  out_later = out_later;
+}
 
 -- the script was read, and a run of it was printed, cut, or out of memory
-pub run_ends : (command : Command) (input out : Stream) (given : Given) (s : Script) → WasRead input.before input.now s
-    → RunEnds command out.before out.now out.faults_before out.faults_now s given.status given.entries given.left → input.faults_before ≤ input.faults_now
+run_ends : (command : Command) (input out : Stream) (given : Given) (s : Script) → WasRead input.before input.now s
+    → EndsRun command out given s → input.faults_before ≤ input.faults_now
     → Ends command input out given
 run_ends command input out given s read run input_later = record {
   which = status run.which;
@@ -126,3 +142,39 @@ run_ends command input out given s read run input_later = record {
     missing (inr (inl two)) = absurd (other 2 run.which (omega arith) (omega arith) (omega arith) two)
     missing (inr (inr (inl three))) = absurd (other 3 run.which (omega arith) (omega arith) (omega arith) three)
     missing (inr (inr (inr six))) = run.none six
+
+-- ---- behind the reader
+
+-- these bytes were read of an input, and all of it where they are few
+pub record IsRead (before now : Option (List ℕ)) (bytes : List ℕ) : Type 0 where
+  pub consumes : Consumes before now bytes
+  pub end : length bytes < 1048577 → IsAtEnd now
+
+pub read_same : (before now : Option (List ℕ)) (bytes seen : List ℕ) → seen ≡ bytes → Consumes before now bytes → (length bytes < 1048577 → IsAtEnd now) → IsRead before now seen
+read_same before now bytes seen same consumes end = subst (IsRead before now) (sym same) (record { consumes = consumes; end = end })
+
+-- the script was run, or the fault was told
+pub read_ends : (command : Command) (input out : Stream) (given : Given) (bytes : List ℕ) (read : Result Script ReadFault) → IsRead input.before input.now bytes
+    → IfOk read (λ s. IsScript bytes s) → IfErr read (λ e. IsFirst (fault_of bytes) e) → IfErr read (λ e. ReadsNone bytes e)
+    → IfOk read (EndsRun command out given) → IfErr read (EndsOnFault out given) → input.faults_before ≤ input.faults_now → Ends command input out given
+read_ends command input out given bytes (Ok s) is found first none ran fault later =
+    run_ends command input out given s (was_read input.before input.now bytes s is.consumes is.end found) ran later
+read_ends command input out given bytes (Err (R.Script f)) is found first none ran fault later =
+    let stood = stands input.before input.now bytes f.line f.cause is.consumes is.end first none in
+    refused_ends command input out given fault.status-is (record { line = f.line; cause = f.cause; first = stood.first; none = stood.none; text = fault.told }) fault.none later fault.later
+read_ends command input out given bytes (Err (R.Memory e)) is found first none ran fault later =
+    memory_ends command input out given fault.status-is fault.told fault.none later fault.later
+
+-- a script that was read is well formed
+pub read_formed : (bytes : List ℕ) (read : Result Script ReadFault) → IfOk read (λ s. IsScript bytes s) → IfOk read (λ s. IsWellFormed s)
+read_formed bytes (Ok s) found = found.well_formed
+read_formed bytes (Err e) found = tt
+
+-- the store is handed back of a script alone
+pub read_back : {B : Type 0} (before now out_before out_now : Option (List ℕ)) (bytes : List ℕ) (status : ℕ) (store : Option B) (read : Result Script ReadFault) → IsRead before now bytes
+    → IfOk read (λ s. IsScript bytes s) → IfErr read (λ e. store ≡ None) → IfSome store (λ b. status ≡ 6) → (status ≡ 6 → store ≡ None → Keeps out_before out_now)
+    → HandsStoreBack before now out_before out_now status store
+read_back before now out_before out_now bytes status None read is found gone six unwritten = record { only = tt; always = unwritten }
+read_back before now out_before out_now bytes status (Some b) (Ok s) is found gone six unwritten =
+    record { only = (six, s, was_read before now bytes s is.consumes is.end found); always = unwritten }
+read_back before now out_before out_now bytes status (Some b) (Err e) is found gone six unwritten = absurd cc

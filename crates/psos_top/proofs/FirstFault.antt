@@ -7,11 +7,6 @@ use Rattle.psos_calls.specs.Language.Script.{Script}
 use Rattle.psos_model.specs.Text.Spelling.{IsScript}
 use Rattle.psos_script.specs.declared.cause.Cause.{Cause}
 use Rattle.psos_script.specs.declared.cause.Cause.TheVariants as C
-use Rattle.psos_script.specs.declared.fault.ReadFault.{ReadFault}
-use Rattle.psos_script.specs.declared.fault.ReadFault.TheVariants as F
-use Rattle.psos_script.specs.declared.fault.ScriptFault.{ScriptFault}
-use Rattle.psos_script.specs.Answers.{IsFirst}
-use Rattle.psos_script.specs.Answers.{SpellsNone as ReadsNone}
 use Rattle.psos_script.specs.Fault.{fault_of, fault_from}
 use Rattle.psos_text.specs.Lines.{lines_of}
 use Rattle.psos_top.specs.Outcome.{SpellsNone}
@@ -45,11 +40,3 @@ stands (Some xs) None bytes line cause read end fault none = absurd read
 stands (Some xs) (Some rest) bytes line cause read end fault none =
     let r = whole xs bytes rest line cause read end fault none in
     record { first = r.0; none = r.1 }
-
--- where the reader's fault is one of the script
-
-pub first_is : (first : Option (ℕ × Cause)) (e : ReadFault) (f : ScriptFault) → e ≡ F.Script f → IsFirst first e → first ≡ Some (f.line, f.cause)
-first_is first e f is h = let P : ReadFault → Type 0 = λ z. IsFirst first z in subst P is h
-
-pub none_is : (bytes : List ℕ) (e : ReadFault) (f : ScriptFault) → e ≡ F.Script f → ReadsNone bytes e → (s : Script) → IsScript bytes s → ⊥
-none_is bytes e f is h = let P : ReadFault → Type 0 = λ z. ReadsNone bytes z in subst P is h

@@ -15,7 +15,7 @@ use Rattle.psos_top.specs.declared.command.Command.{Command}
 use Rattle.psos_top.specs.Orders.{IsRunBy}
 use Rattle.psos_print.specs.declared.fault.PrintFault.{PrintFault}
 use Rattle.psos_print.specs.declared.fault.PrintFault.TheVariants as F
-use Rattle.psos_print.specs.Places.{entries_text}
+use Rattle.psos_print.specs.Positions.{entries_text}
 use Rattle.psos_print.specs.Pieces.{HasReason}
 use Rattle.psos_print.proofs.Pieces.{begun_front, front_begun}
 use Rattle.psos_top.specs.Outcome.{LeavesFront, RunEnds}

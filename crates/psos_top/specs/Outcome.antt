@@ -1,5 +1,5 @@
 -- How a command ends. States docs/program.md, "Statuses".
-use Rattle.std.specs.Prelude.{◌≡◌, ℕ, ◌≤◌, ◌++◌, List, [], ◌∷◌, ◌⊎◌, Option, Some, None, IfSome, IsSomeAnd, codes, decimal}
+use Rattle.std.specs.Prelude.{◌≡◌, ℕ, ◌≤◌, ◌++◌, List, [], ◌∷◌, ◌⊎◌, Option, Some, None, IfSome, IsSomeAnd, option_map, codes, decimal}
 use Rattle.std.specs.Io.KnownBytes.{Appends, Keeps, IsAtEnd}
 use Rattle.psos_io.specs.Bytes.{AppendsFront}
 use Rattle.psos_io.specs.Causes.{Rose}
@@ -12,12 +12,41 @@ use Rattle.psos_model.specs.Text.Transcript.{transcript}
 use Rattle.psos_model.specs.Text.Output.{output, printed}
 use Rattle.psos_print.specs.declared.fault.PrintFault.{PrintFault}
 use Rattle.psos_print.specs.declared.fault.PrintFault.TheVariants as faults
-use Rattle.psos_print.specs.Places.{entries_text}
+use Rattle.psos_print.specs.Positions.{entries_text}
 use Rattle.psos_script.specs.declared.cause.Cause.{Cause}
+use Rattle.psos_script.specs.declared.fault.ReadFault.{ReadFault}
+use Rattle.psos_script.specs.declared.fault.ReadFault.TheVariants as R
 use Rattle.psos_script.specs.Fault.{fault_of}
 use Rattle.psos_script.specs.CauseText.{cause_text}
+use Rattle.psos_core.specs.declared.levels.Levels.{Levels}
+use Rattle.psos_core.specs.System.{system_of}
 use Rattle.psos_top.specs.declared.command.Command.{Command}
+use Rattle.psos_top.specs.declared.outcome.Outcome.{Outcome}
 use Rattle.psos_top.specs.Orders.{IsRunBy}
+
+-- ---- what goes in and out, and what is given
+
+-- an input or an output before and now: its bytes, where they are known, and how many of its calls failed
+pub record Stream : Type 0 where
+  pub before : Option (List ℕ)
+  pub now : Option (List ℕ)
+  pub faults_before : ℕ
+  pub faults_now : ℕ
+
+-- a source or a sink before and now, seen by its bytes and its count of faults
+abbrev pub stream : {S : Type 0} → (S → Option (List ℕ)) → (S → ℕ) → S → S → Stream
+stream bytes faults before now = record { before = bytes before; now = bytes now; faults_before = faults before; faults_now = faults now }
+
+-- what a command gives
+pub record Given : Type 0 where
+  pub status : ℕ
+  pub entries : List Entry
+  pub left : Option System
+
+abbrev pub given_by : {B : Type 0} → Outcome B → Given
+given_by {B} outcome = record { status = outcome.status; entries = outcome.entries; left = option_map (λ (l : Levels B). system_of l) outcome.levels }
+
+-- ---- the lines in place of a run
 
 -- line L: CAUSE
 abbrev pub fault_line : ℕ → Cause → List ℕ
@@ -104,6 +133,26 @@ pub record RunEnds (command : Command) (before now : Option (List ℕ)) (faults_
   pub memory : status ≡ 6 → Keeps before now ⊎ IsBroken command before now s
   pub later : faults_before ≤ faults_now
 
+abbrev pub EndsRun : Command → Stream → Given → Script → Type 0
+EndsRun command out given s = RunEnds command out.before out.now out.faults_before out.faults_now s given.status given.entries given.left
+
+-- the status where there is no script: 2 for a faulty line, and 6 where memory ran out
+abbrev pub status_of_fault : ReadFault → ℕ
+status_of_fault (R.Script fault) = 2
+status_of_fault (R.Memory e) = 6
+
+-- what is written then: the line of the fault, or nothing
+abbrev pub TellsFault : Stream → ReadFault → Type 0
+TellsFault out (R.Script fault) = Wrote out.before out.now out.faults_before out.faults_now (fault_line fault.line fault.cause)
+TellsFault out (R.Memory e) = Keeps out.before out.now
+
+-- there is no script, and no run
+pub record EndsOnFault (out : Stream) (given : Given) (fault : ReadFault) : Type 0 where
+  pub status-is : given.status ≡ status_of_fault fault
+  pub told : TellsFault out fault
+  pub none : IsNoRun given.entries given.left
+  pub later : out.faults_before ≤ out.faults_now
+
 -- exactly status 2: bytes that spell no script end so, unless a read failed or memory was wanting
 pub record RefusesNonScripts (input : Option (List ℕ)) (reads_before reads_now status : ℕ) : Type 0 where
   pub refuses : HoldsNone input → (Rose reads_before reads_now → ⊥) → (status ≡ 2) ⊎ (status ≡ 6)
@@ -126,33 +175,23 @@ count_at_end (Some within) back start = within
 count_at_end None (Some back) start = back
 count_at_end None None start = start
 
+-- where the store is at the end, and how many of its calls had failed
+pub record StoreEnds {B : Type 0} (faults : B → ℕ) (store : B) (input out : Stream) (outcome : Outcome B) : Type 0 where
+  pub back : HandsStoreBack input.before input.now out.before out.now outcome.status outcome.store
+  pub count : outcome.store_faults ≡ count_at_end (option_map (λ (l : Levels B). faults l.pages.store) outcome.levels) (option_map faults outcome.store) (faults store)
+  pub later : faults store ≤ outcome.store_faults
+
 -- ---- the statuses
 
 -- of a command
 abbrev pub IsRunStatus : ℕ → Type 0
 IsRunStatus status = (status ≡ 0) ⊎ (status ≡ 2) ⊎ (status ≡ 3) ⊎ (status ≡ 4) ⊎ (status ≡ 6)
 
-abbrev pub IsStatus : ℕ → Type 0
-IsStatus status = (status ≡ 1) ⊎ IsRunStatus status
-
 -- the statuses without a run
 abbrev pub HasNoRun : ℕ → Type 0
 HasNoRun status = (status ≡ 1) ⊎ (status ≡ 2) ⊎ (status ≡ 3) ⊎ (status ≡ 6)
 
 -- ---- a command, from the bytes that go in to those that come out
-
--- an input or an output before and now: its bytes, where they are known, and how many of its calls failed
-pub record Stream : Type 0 where
-  pub before : Option (List ℕ)
-  pub now : Option (List ℕ)
-  pub faults_before : ℕ
-  pub faults_now : ℕ
-
--- what a command gives
-pub record Given : Type 0 where
-  pub status : ℕ
-  pub entries : List Entry
-  pub left : Option System
 
 -- how it ends
 pub record Ends (command : Command) (input out : Stream) (given : Given) : Type 0 where

@@ -2,7 +2,8 @@
 use Rattle.std.specs.Prelude.{◌≡◌, ℕ, ◌≤◌, ◌⊎◌, List, Some, None}
 use Rattle.psos_top.specs.declared.words.Asked.{Asked}
 use Rattle.psos_top.specs.Words.{words_asked}
-use Rattle.psos_top.specs.Outcome.{Stream, Given, Ends, Wrote, IsNoRun, usage_text}
+use Rattle.psos_calls.specs.Language.Script.{Script}
+use Rattle.psos_top.specs.Outcome.{Stream, Given, Ends, Wrote, IsPrinted, IsNoRun, usage_text}
 
 -- status 1: nothing was read, and the line of its use was written, or a front of it and a write failed
 pub record EndsUnread (input out : Stream) (given : Given) : Type 0 where
@@ -17,6 +18,13 @@ pub record EndsUnread (input out : Stream) (given : Given) : Type 0 where
 pub record EndsAsAsked (words : List (List ℕ)) (input out : Stream) (given : Given) : Type 0 where
   pub shapeless : words_asked words ≡ None → EndsUnread input out given
   pub asked : (asked : Asked) → words_asked words ≡ Some asked → Ends asked.command input out given
+
+-- status 0: what was written is the output of the flat objects for the order that the entries record, which is the order of the command that is asked for
+pub record PrintsAsAsked (words : List (List ℕ)) (input out : Stream) (given : Given) : Type 0 where
+  pub asked : Asked
+  pub asked-is : words_asked words ≡ Some asked
+  pub script : Script
+  pub printed : IsPrinted asked.command input.before input.now out.before out.now given.entries given.left script
 
 -- status 6 before the words were had: nothing was read, and nothing was written
 pub record EndsUnheard (input out : Stream) (status : ℕ) : Type 0 where

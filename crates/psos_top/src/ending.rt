@@ -1,21 +1,21 @@
 // The ends of a command.
-ghost use Rattle.std.specs.Prelude.{◌≡◌, ◌≤◌, ◌<◌, ◌^◌, ◌⊎◌, None, Some, IfOk, IfErr, IfSome, OnOk, option_map};
-ghost use Rattle.std.specs.Io.KnownBytes.{Appends, Keeps};
+ghost use Rattle.std.specs.Prelude.{◌≡◌, ◌≤◌, ◌<◌, ◌^◌, None, Some, IfOk, IfErr, IfSome, OnOk};
+ghost use Rattle.std.specs.Io.KnownBytes.{Appends};
 ghost use Rattle.psos_model.specs.Text.Output.{calls_of, printed};
 ghost use Rattle.psos_print.specs.Pieces.{HasReason};
 ghost use Rattle.psos_core.specs.System.{system_of};
 ghost use Rattle.psos_top.specs.Orders.{IsRunBy};
 ghost use Rattle.psos_top.specs.declared.command.Command.{Command};
-ghost use Rattle.psos_top.specs.Outcome.{fault_line, Wrote, IsNoRun, LeavesFront, RunEnds};
+ghost use Rattle.psos_top.specs.Outcome.{fault_line, stream, given_by, Wrote, IsNoRun, LeavesFront, EndsRun};
 
+use crate::fault_line::fault_line;
 use crate::outcome::Outcome;
 use psos_calls::{Entry, Script};
 use psos_core::Levels;
 use psos_io::{Sink, Store, put_all};
 use psos_journal::Entries;
 use psos_print::{PrintFault, done_line, put_transcript};
-use psos_script::{ScriptFault, put_cause};
-use psos_text::put_number;
+use psos_script::ScriptFault;
 use std::alloc::{AllocError, Global};
 
 /// An end without a run, where so many calls of the store had failed.
@@ -73,41 +73,22 @@ pub fn stop<K: Sink, B: Store>(
     no_run(alloc, status, store.faults())
 }
 
-// The line of a fault.
-fn fault_text(alloc: Global, fault: ScriptFault) -> Result<Vec<u8>, AllocError>
-    ensures { IfOk result (λ text. text.items ≡ fault_line fault.line fault.cause) }
-{
-    let mut text = Vec::new(alloc);
-    text.extend_from_slice(b"line ")?;
-    put_number(alloc, &mut text, fault.line as u64)?;
-    text.extend_from_slice(b": ")?;
-    put_cause(alloc, &mut text, fault.cause)?;
-    text.extend_from_slice(b"\n")?;
-    Ok(text)
-}
-
-/// The line of the first fault of a script, in place of a run. Where there is no memory for it nothing is written, and
-/// the status is 6.
+/// The line of the first fault of a script, in place of a run.
 pub fn refuse<K: Sink, B: Store>(
     alloc: Global,
     output: &mut K,
     fault: ScriptFault,
     store: B,
 ) -> Outcome<B>
-    ensures which { (result.status ≡ 2) ⊎ (result.status ≡ 6) }
+    ensures status { result.status ≡ 2 }
     ensures none { IsNoRun result.entries result.levels }
-    ensures wrote { result.status ≡ 2 →
-        Wrote (K.took output.old) (K.took output.new) (K.faults output.old) (K.faults output.new) (fault_line fault.line fault.cause) }
-    ensures memory { result.status ≡ 6 → Keeps (K.took output.old) (K.took output.new) }
+    ensures wrote { Wrote (K.took output.old) (K.took output.new) (K.faults output.old) (K.faults output.new) (fault_line fault.line fault.cause) }
     ensures later { K.faults output.old ≤ K.faults output.new }
     ensures levels { result.levels ≡ None }
     ensures store { result.store ≡ None }
     ensures store_faults { result.store_faults ≡ B.faults store }
 {
-    let Ok(text) = fault_text(alloc, fault) else {
-        return no_run(alloc, 6, store.faults());
-    };
-    stop(alloc, output, 2, &text, store)
+    stop(alloc, output, 2, &fault_line(fault), store)
 }
 
 // Writes the transcript, and then the last line.
@@ -144,8 +125,7 @@ pub fn finish<K: Sink, B: Store>(
 ) -> Outcome<B>
     requires few { calls_of entries < 2 ^ 64 }
     ensures ends { (command : Command) → IsRunBy command script.now entries (system_of levels) →
-        RunEnds command (K.took output.old) (K.took output.new) (K.faults output.old) (K.faults output.new)
-        script.now result.status result.entries (option_map (λ l. system_of l) result.levels) }
+        EndsRun command (stream K.took K.faults output.old output.new) (given_by result) script.now }
     ensures levels { IfSome result.levels (λ l. l ≡ levels) }
     ensures store { IfSome result.store (λ b. (result.status ≡ 6) × (b ≡ levels.pages.store)) }
     ensures either { result.levels ≡ None → result.store ≡ Some levels.pages.store }

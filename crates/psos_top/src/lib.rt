@@ -4,6 +4,7 @@
 mod arguments;
 mod command;
 mod ending;
+mod fault_line;
 mod outcome;
 mod program;
 mod run;

@@ -1,5 +1,5 @@
 // A command, from the bytes that go in to those that come out.
-ghost use Rattle.std.specs.Prelude.{◌≡◌, ◌≤◌, ◌<◌, ◌^◌, [], None, Some, IsSome, OnOk, IfErr, IfSome, option_map};
+ghost use Rattle.std.specs.Prelude.{◌≡◌, ◌≤◌, ◌<◌, ◌^◌, [], None, Some, IsSome, OnOk, IfOk, IfErr, IfSome, option_map};
 ghost use Rattle.std.specs.Io.KnownBytes.{Keeps};
 ghost use Rattle.psos_calls.specs.Language.Script.{IsWellFormed};
 ghost use Rattle.psos_model.specs.Flat.Boot.{boot};
@@ -10,7 +10,7 @@ ghost use Rattle.psos_core.specs.Faults.{MayStop};
 ghost use Rattle.psos_core.specs.Events.{IsAfter};
 ghost use Rattle.psos_top.specs.declared.command.Command.{Command};
 ghost use Rattle.psos_top.specs.Orders.{IsRunBy};
-ghost use Rattle.psos_top.specs.Outcome.{IsNoRun, RunEnds, Ends, HandsStoreBack, count_at_end};
+ghost use Rattle.psos_top.specs.Outcome.{stream, given_by, IsNoRun, RunEnds, EndsRun, EndsOnFault, Ends, StoreEnds, count_at_end};
 
 use crate::Command;
 use crate::ending::{finish, give_up, no_run, refuse, stop};
@@ -77,8 +77,7 @@ fn run_script<K: Sink, B: Store>(
     requires well_formed { IsWellFormed script }
     requires least { 8 ≤ frames }
     requires most { frames ≤ 256 }
-    ensures ends { RunEnds command (K.took output.old) (K.took output.new) (K.faults output.old) (K.faults output.new)
-        script result.status result.entries (option_map (λ l. system_of l) result.levels) }
+    ensures ends { EndsRun command (stream K.took K.faults output.old output.new) (given_by result) script }
     ensures store { IfSome result.store (λ b. result.status ≡ 6) }
     ensures unwritten { result.status ≡ 6 → result.store ≡ None → Keeps (K.took output.old) (K.took output.new) }
     ensures store_faults { result.store_faults ≡ count_at_end (option_map (λ l. B.faults l.pages.store) result.levels) (option_map (λ b. B.faults b) result.store) (B.faults store) }
@@ -114,6 +113,33 @@ fn stopped<B: Store>(alloc: Global, core: Core<B>) -> Outcome<B>
     }
 }
 
+// A command behind its reader. Without a script the status is 2 for a faulty line, and 6 where memory ran out.
+fn run_read<K: Sink, B: Store>(
+    alloc: Global,
+    command: Command,
+    read: Result<Script, ReadFault>,
+    frames: u16,
+    output: &mut K,
+    store: B,
+) -> Outcome<B>
+    requires well_formed { IfOk read (λ s. IsWellFormed s) }
+    requires least { 8 ≤ frames }
+    requires most { frames ≤ 256 }
+    ensures ran { IfOk read (EndsRun command (stream K.took K.faults output.old output.new) (given_by result)) }
+    ensures fault { IfErr read (EndsOnFault (stream K.took K.faults output.old output.new) (given_by result)) }
+    ensures gone { IfErr read (λ fault. result.store ≡ None) }
+    ensures store { IfSome result.store (λ b. result.status ≡ 6) }
+    ensures unwritten { result.status ≡ 6 → result.store ≡ None → Keeps (K.took output.old) (K.took output.new) }
+    ensures store_faults { result.store_faults ≡ count_at_end (option_map (λ l. B.faults l.pages.store) result.levels) (option_map (λ b. B.faults b) result.store) (B.faults store) }
+    ensures store_later { B.faults store ≤ result.store_faults }
+{
+    match read {
+        Ok(script) => run_script(alloc, command, script, frames, output, store),
+        Err(ReadFault::Script(fault)) => refuse(alloc, output, fault, store),
+        Err(ReadFault::Memory(_)) => no_run(alloc, 6, store.faults()),
+    }
+}
+
 /// A command: reads a script, runs it in the command's order, and prints the transcript (docs/program.md, "Commands").
 /// The number of frames has no effect today. It always returns.
 pub(crate) fn run<I: Source, K: Sink, B: Store>(
@@ -126,22 +152,14 @@ pub(crate) fn run<I: Source, K: Sink, B: Store>(
 ) -> Outcome<B>
     requires least { 8 ≤ frames }
     requires most { frames ≤ 256 }
-    ensures ends { Ends command
-        (record { before = I.left input.old; now = I.left input.new; faults_before = I.faults input.old; faults_now = I.faults input.new })
-        (record { before = K.took output.old; now = K.took output.new; faults_before = K.faults output.old; faults_now = K.faults output.new })
-        (record { status = result.status; entries = result.entries; left = option_map (λ l. system_of l) result.levels }) }
-    ensures store { HandsStoreBack (I.left input.old) (I.left input.new) (K.took output.old) (K.took output.new) result.status result.store }
-    ensures store_faults { result.store_faults ≡ count_at_end (option_map (λ l. B.faults l.pages.store) result.levels) (option_map (λ b. B.faults b) result.store) (B.faults store) }
-    ensures store_later { B.faults store ≤ result.store_faults }
+    ensures ends { Ends command (stream I.left I.faults input.old input.new) (stream K.took K.faults output.old output.new) (given_by result) }
+    ensures store { StoreEnds B.faults store (stream I.left I.faults input.old input.new) (stream K.took K.faults output.old output.new) result }
 {
     let bytes = match read_all(alloc, input) {
         Ok(bytes) => bytes,
         Err(InputFault::Failed) => return stop(alloc, output, 3, b"read fault\n", store),
         Err(InputFault::Memory) => return no_run(alloc, 6, store.faults()),
     };
-    match read_script(alloc, &bytes) {
-        Ok(script) => run_script(alloc, command, script, frames, output, store),
-        Err(ReadFault::Script(fault)) => refuse(alloc, output, fault, store),
-        Err(ReadFault::Memory(_)) => no_run(alloc, 6, store.faults()),
-    }
+    let read = read_script(alloc, &bytes);
+    run_read(alloc, command, read, frames, output, store)
 }

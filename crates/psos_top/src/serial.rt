@@ -1,7 +1,6 @@
 // The command `serial`.
-ghost use Rattle.std.specs.Prelude.{◌≡◌, ◌≤◌, option_map};
-ghost use Rattle.psos_core.specs.System.{system_of};
-ghost use Rattle.psos_top.specs.Outcome.{Ends, HandsStoreBack, count_at_end};
+ghost use Rattle.std.specs.Prelude.{◌≤◌};
+ghost use Rattle.psos_top.specs.Outcome.{stream, given_by, Ends, StoreEnds};
 
 use crate::Command;
 use crate::outcome::Outcome;
@@ -22,13 +21,8 @@ pub fn serial_call<I: Source, K: Sink, B: Store>(
 ) -> Outcome<B>
     requires least { 8 ≤ frames }
     requires most { frames ≤ 256 }
-    ensures ends { Ends Command.Serial
-        (record { before = I.left input.old; now = I.left input.new; faults_before = I.faults input.old; faults_now = I.faults input.new })
-        (record { before = K.took output.old; now = K.took output.new; faults_before = K.faults output.old; faults_now = K.faults output.new })
-        (record { status = result.status; entries = result.entries; left = option_map (λ l. system_of l) result.levels }) }
-    ensures store { HandsStoreBack (I.left input.old) (I.left input.new) (K.took output.old) (K.took output.new) result.status result.store }
-    ensures store_faults { result.store_faults ≡ count_at_end (option_map (λ l. B.faults l.pages.store) result.levels) (option_map (λ b. B.faults b) result.store) (B.faults store) }
-    ensures store_later { B.faults store ≤ result.store_faults }
+    ensures ends { Ends Command.Serial (stream I.left I.faults input.old input.new) (stream K.took K.faults output.old output.new) (given_by result) }
+    ensures store { StoreEnds B.faults store (stream I.left I.faults input.old input.new) (stream K.took K.faults output.old output.new) result }
 {
     run(alloc, Command::Serial, frames, input, output, store)
 }

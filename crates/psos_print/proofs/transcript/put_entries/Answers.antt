@@ -6,14 +6,14 @@ use Rattle.psos_print.proofs.transcript.put_entries.Goals as goal
 
 pub returns-in_err-put_entry-clause-err : goal.returns-in_err-put_entry-clause-err
 returns-in_err-put_entry-clause-err g c =
-    let i = c.places.place-index in
-    let within : i < length c.args.places.now = omega arith in
-    let next = lines_next (name_text c.args.name.now) c.args.entries.now c.args.places.now i c.index-entries-place.result within (all_at _ c.args.places.now i c.requires within) c.index-entries-place.is in
-    on_err _ (left_begun _ _ _ _ _ _ _ _ _ _ _ c.places.invariant next c.in_err-put_entry.ensures.err)
+    let i = c.positions.position-index in
+    let within : i < length c.args.positions.now = omega arith in
+    let next = lines_next (name_text c.args.name.now) c.args.entries.now c.args.positions.now i c.index-entries-position.result within (all_at _ c.args.positions.now i c.requires within) c.index-entries-position.is in
+    on_err _ (left_begun _ _ _ _ _ _ _ _ _ _ _ c.positions.invariant next c.in_err-put_entry.ensures.err)
 
-pub places-preserved : goal.places-preserved
-places-preserved g c =
-    let i = c.places.place-index in
-    let within : i < length c.args.places.now = omega arith in
-    let next = lines_next (name_text c.args.name.now) c.args.entries.now c.args.places.now i c.index-entries-place.result within (all_at _ c.args.places.now i c.requires within) c.index-entries-place.is in
-    left_more _ _ _ _ _ _ _ _ _ _ _ _ _ c.places.invariant next c.in_ok-put_entry.ensures.ok c.in_ok-put_entry.ensures.later
+pub positions-preserved : goal.positions-preserved
+positions-preserved g c =
+    let i = c.positions.position-index in
+    let within : i < length c.args.positions.now = omega arith in
+    let next = lines_next (name_text c.args.name.now) c.args.entries.now c.args.positions.now i c.index-entries-position.result within (all_at _ c.args.positions.now i c.requires within) c.index-entries-position.is in
+    left_more _ _ _ _ _ _ _ _ _ _ _ _ _ c.positions.invariant next c.in_ok-put_entry.ensures.ok c.in_ok-put_entry.ensures.later

@@ -1,15 +1,15 @@
 // What is not finished.
 ghost use Rattle.std.specs.Prelude.{◌≡◌, ◌<◌, OnOk};
-ghost use Rattle.psos_script.specs.Draft.{opened, place_in, count_in, added, phased};
+ghost use Rattle.psos_script.specs.Draft.{pending, section_in, count_in, added, phased};
 
-use crate::place::Place;
+use crate::section::Section;
 use psos_calls::Request;
 use psos_text::Name;
 use std::alloc::{AllocError, Global};
 
 /// The code block or the user that is not finished.
 #[derive(Drop)]
-pub(crate) enum Open {
+pub(crate) enum Unfinished {
     Nothing,
     Body {
         label: Name,
@@ -24,38 +24,38 @@ pub(crate) enum Open {
     },
 }
 
-impl Open {
+impl Unfinished {
     // Where the next line stands.
-    pub(crate) fn place(&self) -> Place
-        ensures { result ≡ place_in (opened self.now) }
+    pub(crate) fn section(&self) -> Section
+        ensures { result ≡ section_in (pending self.now) }
     {
         match self {
-            Open::Nothing => Place::Outside,
-            Open::Body { .. } => Place::InBody,
-            Open::Asking { .. } => Place::InUser,
+            Unfinished::Nothing => Section::Outside,
+            Unfinished::Body { .. } => Section::InBody,
+            Unfinished::Asking { .. } => Section::InUser,
         }
     }
 
     // How many lines it has.
     pub(crate) fn count(&self) -> usize
-        ensures { result ≡ count_in (opened self.now) }
+        ensures { result ≡ count_in (pending self.now) }
     {
         match self {
-            Open::Nothing => 0,
-            Open::Body { body, .. } => body.len(),
-            Open::Asking { count, .. } => *count,
+            Unfinished::Nothing => 0,
+            Unfinished::Body { body, .. } => body.len(),
+            Unfinished::Asking { count, .. } => *count,
         }
     }
 
     // One request more. It fails only for want of memory.
     pub(crate) fn add(&mut self, request: Request) -> Result<(), AllocError>
-        requires room { count_in (opened self.old) < 240 }
-        ensures { OnOk result (opened self.new ≡ added (opened self.old) request) }
+        requires room { count_in (pending self.old) < 240 }
+        ensures { OnOk result (pending self.new ≡ added (pending self.old) request) }
     {
         match self {
-            Open::Nothing => {}
-            Open::Body { body, .. } => body.push(request)?,
-            Open::Asking {
+            Unfinished::Nothing => {}
+            Unfinished::Body { body, .. } => body.push(request)?,
+            Unfinished::Asking {
                 requests,
                 count,
                 ..
@@ -69,12 +69,12 @@ impl Open {
 
     // One phase more. It fails only for want of memory.
     pub(crate) fn phase(&mut self, alloc: Global) -> Result<(), AllocError>
-        requires room { count_in (opened self.old) < 240 }
-        ensures { OnOk result (opened self.new ≡ phased (opened self.old)) }
+        requires room { count_in (pending self.old) < 240 }
+        ensures { OnOk result (pending self.new ≡ phased (pending self.old)) }
     {
         match self {
-            Open::Nothing | Open::Body { .. } => {}
-            Open::Asking {
+            Unfinished::Nothing | Unfinished::Body { .. } => {}
+            Unfinished::Asking {
                 phases,
                 requests,
                 count,
