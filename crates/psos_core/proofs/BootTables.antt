@@ -5,6 +5,7 @@ use Rattle.std.specs.FinMap.{empty}
 use Rattle.std.proofs.lemmas.List.{length-replicate}
 use Rattle.std.proofs.Math.Seq.{set-append_seam}
 use Rattle.std.proofs.Common.{get_or-set_other}
+use Rattle.psos_limits.specs.declared.TheConstants.{SLOTS, MOST_WORDS}
 use Rattle.psos_table.specs.Table.{Table, at, put, size}
 use Rattle.psos_table.proofs.Tables.{at-empty, at-put_apart, size-empty}
 use Rattle.psos_words.specs.declared.word.Word.{Word}
@@ -61,7 +62,7 @@ next_scratch all i users = ap (λ t. at t (6 + 4 * i)) (scratch_are (boot_reps 0
 pub next_life : (i : ℕ) (users : List UserScript) → at (boot_life (i + 1) users) (6 + 4 * i) ≡ None
 next_life i users = ap (λ t. at t (6 + 4 * i)) (life_are (i + 1) users) ∙ next_row empty 6 (λ _. kinds.Segment) i users (at-empty (6 + 4 * i))
 
-pub few_life : (i : ℕ) (users : List UserScript) → length users ≤ 8 → size (boot_life i users) < 512
+pub few_life : (i : ℕ) (users : List UserScript) → length users ≤ 8 → size (boot_life i users) < MOST_WORDS
 few_life i users few =
     let rows = rows_size empty 6 (λ _. kinds.Segment) i users in
     let same = ap (λ t. size t) (life_are i users) in
@@ -78,7 +79,7 @@ boxes_none i (user ∷ users) = ap (λ (t : Table (List Word)). put t (3 + 4 * i
 -- ---- taking slots
 
 abbrev blank : Option (List Word)
-blank = Some (zeros 512)
+blank = Some (zeros MOST_WORDS)
 
 abbrev free : Option (List Word)
 free = None
@@ -91,27 +92,27 @@ taken_one_more : (n : ℕ) (rest : Pages) → set (replicate n blank ++ free ∷
 taken_one_more zero rest = refl
 taken_one_more (suc n) rest = ap (λ (p : Pages). blank ∷ p) (taken_one_more n rest)
 
-next_free : (n : ℕ) → n < 521 → first_taken n ≡ replicate n blank ++ free ∷ replicate (520 - n) free
+next_free : (n : ℕ) → n < SLOTS → first_taken n ≡ replicate n blank ++ free ∷ replicate (520 - n) free
 next_free n h =
-    let one : 521 - n ≡ suc (520 - n) = omega (arith, h) in
+    let one : SLOTS - n ≡ suc (520 - n) = omega (arith, h) in
     ap (λ k. replicate n blank ++ replicate k free) one
 
-pub least_free : (n : ℕ) → n < 521 → first_free (first_taken n) ≡ n
+pub least_free : (n : ℕ) → n < SLOTS → first_free (first_taken n) ≡ n
 least_free n h = ap first_free (next_free n h) ∙ taken_then_free n (replicate (520 - n) free)
 
-pub slots_length : (n : ℕ) → n ≤ 521 → length (first_taken n) ≡ 521
+pub slots_length : (n : ℕ) → n ≤ SLOTS → length (first_taken n) ≡ SLOTS
 slots_length n h =
-    omega (arith, h, length-append (replicate n blank) (replicate (521 - n) free), length-replicate n blank, length-replicate (521 - n) free)
+    omega (arith, h, length-append (replicate n blank) (replicate (SLOTS - n) free), length-replicate n blank, length-replicate (SLOTS - n) free)
 
-pub take_one : (n : ℕ) → n < 521 → set (first_taken n) (first_free (first_taken n)) blank ≡ first_taken (n + 1)
+pub take_one : (n : ℕ) → n < SLOTS → set (first_taken n) (first_free (first_taken n)) blank ≡ first_taken (n + 1)
 take_one n h =
-    let same : 520 - n ≡ 521 - (n + 1) = omega (arith, h) in
+    let same : 520 - n ≡ SLOTS - (n + 1) = omega (arith, h) in
     let more : suc n ≡ n + 1 = omega arith in
     ap (set (first_taken n) (first_free (first_taken n))) refl
     ∙ (ap (λ k. set (first_taken n) k blank) (least_free n h)
     ∙ (ap (λ (p : Pages). set p n blank) (next_free n h)
     ∙ (taken_one_more n (replicate (520 - n) free)
-    ∙ (ap (λ k. replicate (suc n) blank ++ replicate k free) same ∙ ap (λ k. replicate k blank ++ replicate (521 - (n + 1)) free) more))))
+    ∙ (ap (λ k. replicate (suc n) blank ++ replicate k free) same ∙ ap (λ k. replicate k blank ++ replicate (SLOTS - (n + 1)) free) more))))
 
 -- ---- the entries of homes
 
@@ -149,7 +150,7 @@ pub slots_booted : (users : List UserScript) → length users ≤ 8 → with_hom
 slots_booted users few =
     let n = 2 * length users in
     let one : 1 + n ≡ suc n = omega arith in
-    let left : 521 - (1 + n) ≡ 520 - n = omega (arith, few) in
+    let left : SLOTS - (1 + n) ≡ 520 - n = omega (arith, few) in
     let rest = replicate (520 - n) free in
     ap (λ k. with_homes 0 users (replicate (1 + n) blank ++ replicate k free)) left
     ∙ (ap (λ k. with_homes 0 users (replicate k blank ++ rest)) one
@@ -162,7 +163,7 @@ get_first (suc n) zero rest h = refl
 get_first (suc n) (suc k) rest h = get_first n k rest (omega (arith, h))
 
 pub blank_first : (n : ℕ) → AreBlank 0 n (first_taken (1 + 2 * n))
-blank_first n j low high = get_first (1 + 2 * n) (home_slot j) (replicate (521 - (1 + 2 * n)) free) (omega (arith, high))
+blank_first n j low high = get_first (1 + 2 * n) (home_slot j) (replicate (SLOTS - (1 + 2 * n)) free) (omega (arith, high))
 
 -- ---- as the code asks
 
@@ -179,21 +180,21 @@ ok_is x y e = ap (value_or x) e
 pub new_under : {X : Type 0} (t u : Table X) (first k i : ℕ) → t ≡ u → k ≡ i → at u (first + 4 * i) ≡ None → at t (first + 4 * k) ≡ None
 new_under t u first k i e same none = ap (λ m. at m (first + 4 * k)) e ∙ (ap (λ n. at u (first + 4 * n)) same ∙ none)
 
-pub room_left : (p : Pages) (n : ℕ) → n < 521 → p ≡ first_taken n → first_free p < length p
+pub room_left : (p : Pages) (n : ℕ) → n < SLOTS → p ≡ first_taken n → first_free p < length p
 room_left p n h e =
     let least = ap first_free e ∙ least_free n h in
     let long = ap (λ (p : Pages). length p) e ∙ slots_length n (omega (arith, h)) in
     omega (arith, least, long, h)
 
-pub took : (p q : Pages) (n count : ℕ) → n < 521 → count ≡ n + 1 → p ≡ first_taken n → q ≡ set p (first_free p) (Some (zeros 512)) → q ≡ first_taken count
+pub took : (p q : Pages) (n count : ℕ) → n < SLOTS → count ≡ n + 1 → p ≡ first_taken n → q ≡ set p (first_free p) (Some (zeros MOST_WORDS)) → q ≡ first_taken count
 took p q n count h more e is = is ∙ (ap (λ (p : Pages). set p (first_free p) blank) e ∙ (take_one n h ∙ ap first_taken (sym more)))
 
-pub can_put : (p : Pages) (k i : ℕ) → k ≡ i → slice_index_or p (home_slot i) None ≡ Some (zeros 512) → IsTaken p (8 * (1 + 2 * k) / 8) × (0 ≤ 60)
+pub can_put : (p : Pages) (k i : ℕ) → k ≡ i → slice_index_or p (home_slot i) None ≡ Some (zeros MOST_WORDS) → IsTaken p (8 * (1 + 2 * k) / 8) × (0 ≤ 60)
 can_put p k i same there =
     let page : 8 * (1 + 2 * k) / 8 ≡ home_slot i = omega (arith, same) in
-    ((zeros 512, ap (λ n. slice_index_or p n None) page ∙ there), omega arith)
+    ((zeros MOST_WORDS, ap (λ n. slice_index_or p n None) page ∙ there), omega arith)
 
-pub was_put : (p q : Pages) (k i : ℕ) (four : List Word) → k ≡ i → four ≡ entry_words scratch_name (full (scratch_of i)) true → slice_index_or p (home_slot i) None ≡ Some (zeros 512)
+pub was_put : (p q : Pages) (k i : ℕ) (four : List Word) → k ≡ i → four ≡ entry_words scratch_name (full (scratch_of i)) true → slice_index_or p (home_slot i) None ≡ Some (zeros MOST_WORDS)
     → q ≡ set p (8 * (1 + 2 * k) / 8) (Some (written (slot_words p (8 * (1 + 2 * k) / 8)) (8 * (1 + 2 * k) % 8 * 64 + 0) four)) → q ≡ set p (home_slot i) (Some (home_words i))
 was_put p q k i four same is there e =
     let page : 8 * (1 + 2 * k) / 8 ≡ home_slot i = omega (arith, same) in
@@ -201,7 +202,7 @@ was_put p q k i four same is there e =
     e ∙ (ap (λ n. set p n (Some (written (slot_words p n) (8 * (1 + 2 * k) % 8 * 64 + 0) four))) page
     ∙ (ap (λ n. set p (home_slot i) (Some (written (slot_words p (home_slot i)) n four))) first
     ∙ (ap (λ ws. set p (home_slot i) (Some (written ws 0 four))) (ap words_in there)
-    ∙ ap (λ (ws : List Word). set p (home_slot i) (Some (written (zeros 512) 0 ws))) is)))
+    ∙ ap (λ (ws : List Word). set p (home_slot i) (Some (written (zeros MOST_WORDS) 0 ws))) is)))
 
 pub booted_from : (users : List UserScript) (p q : Pages) (n : ℕ) → length users ≤ 8 → p ≡ first_taken n → q ≡ with_homes 0 users p → n ≡ 1 + 2 * length users → q ≡ boot_slots users
 booted_from users p q n few e is count = is ∙ (ap (with_homes 0 users) (e ∙ ap first_taken count) ∙ slots_booted users few)

@@ -2,6 +2,7 @@
 ghost use Rattle.std.specs.Prelude.{true, ◌≡◌, ◌≤◌, ◌+◌, ◌*◌, ◌<◌, ◌^◌, ◌-◌, [], ◌∷◌, ◌++◌, length, map, slice_set, slice_index_or, replicate, Some, None, IfOk, OnOk};
 ghost use Rattle.std.specs.List.{flat_map, AllByRecursion};
 ghost use Rattle.std.specs.FinMap.{empty};
+ghost use Rattle.psos_limits.specs.declared.TheConstants.{SLOTS, MOST_WORDS, MOST_OBJECTS, MOST_PAGE_FRAMES, LEAST_PAGE_FRAMES};
 ghost use Rattle.psos_table.specs.Table.{at, put, size};
 ghost use Rattle.psos_caps.specs.Capability.{full};
 ghost use Rattle.psos_words.specs.Words.{zeros};
@@ -24,6 +25,7 @@ use psos_codes::Codes;
 use psos_dirs::Dirs;
 use psos_io::Store;
 use psos_life::Life;
+use psos_limits::MOST_WORDS;
 use psos_model::{boot_user, home_of, home_rep_of, scratch_of};
 use psos_pages::Pages;
 use psos_procs::Procs;
@@ -37,7 +39,8 @@ impl<B: Store> Levels<B> {
     /// home and scratch segment, and the entry of the scratch segment in each home. No page but the first of each home
     /// is touched, and the store stays as it was: no call of it is made. The number of frames has no effect today.
     ///
-    /// A refusal is for memory, or for a fault of the store in a call of level 7; today there is no such fault.
+    /// `Err` only where memory runs out. or for a fault of the store in a call of level 7; today there is no such
+    /// fault.
     pub fn boot(
         alloc: Global,
         script: &Script,
@@ -45,8 +48,8 @@ impl<B: Store> Levels<B> {
         store: B,
     ) -> Result<Levels<B>, AllocError>
         requires script { IsWellFormed script.now }
-        requires least { 8 ≤ frames }
-        requires most { frames ≤ 256 }
+        requires least { LEAST_PAGE_FRAMES ≤ frames }
+        requires most { frames ≤ MOST_PAGE_FRAMES }
         ensures booted { IfOk result (λ l. system_of l ≡ boot_system script.now) }
         ensures store { IfOk result (λ l. l.pages.store ≡ store) }
     {
@@ -71,8 +74,8 @@ impl<B: Store> Levels<B> {
 
 // Takes the first slots. It changes nothing in the store.
 fn take_slots<B: Store>(pages: &mut Pages<B>, alloc: Global, count: u16) -> Result<(), AllocError>
-    requires free { pages.old.slots ≡ replicate 521 None }
-    requires few { count ≤ 521 }
+    requires free { pages.old.slots ≡ replicate SLOTS None }
+    requires few { count ≤ SLOTS }
     ensures slots { OnOk result (pages.new.slots ≡ first_taken count) }
     ensures store { pages.new.store ≡ pages.old.store }
 {
@@ -103,7 +106,7 @@ fn scratch_entry(i: u8) -> [Word; 4]
 // Puts it into entry slot 0 of the home.
 fn put_entry<B: Store>(pages: &mut Pages<B>, alloc: Global, i: u8) -> Result<(), AllocError>
     requires user { i < 8 }
-    requires blank { slice_index_or pages.old.slots (home_slot i) None ≡ Some (zeros 512) }
+    requires blank { slice_index_or pages.old.slots (home_slot i) None ≡ Some (zeros MOST_WORDS) }
     ensures slots { OnOk result (pages.new.slots ≡ slice_set pages.old.slots (home_slot i) (Some (home_words i))) }
     ensures store { pages.new.store ≡ pages.old.store }
 {
@@ -144,8 +147,8 @@ fn boot_pages<B: Store>(
     store: B,
 ) -> Result<Pages<B>, AllocError>
     requires few { length texts.now ≤ 8 }
-    requires least { 8 ≤ frames }
-    requires most { frames ≤ 256 }
+    requires least { LEAST_PAGE_FRAMES ≤ frames }
+    requires most { frames ≤ MOST_PAGE_FRAMES }
     ensures slots { IfOk result (λ p. p.slots ≡ boot_slots texts.now) }
     ensures store { IfOk result (λ p. p.store ≡ store) }
 {
@@ -166,9 +169,9 @@ fn make_segment(
     len: u16,
 ) -> Result<(), AllocError>
     requires new { IsNew segs.old uid }
-    requires slot { slot < 521 }
+    requires slot { slot < SLOTS }
     requires some { 1 ≤ len }
-    requires most { len ≤ 512 }
+    requires most { len ≤ MOST_WORDS }
     ensures { OnOk result (segs.new ≡ record { segments = put segs.old.segments uid (record { slot = slot; len = len; guard = guard_1 }); windows = segs.old.windows }) }
 {
     let guard = Rights::of(1);
@@ -191,12 +194,18 @@ fn boot_reps(alloc: Global, i: u8, texts: &[UserText]) -> Result<Segs, AllocErro
 {
     let Some((_, rest)) = texts.split_first() else {
         let mut segs = Segs::new(alloc)?;
-        make_segment(&mut segs, alloc, 2, 0, 512)?;
+        make_segment(&mut segs, alloc, 2, 0, MOST_WORDS as u16)?;
         return Ok(segs);
     };
     let mut segs = boot_reps(alloc, i + 1, rest)?;
     let uid = home_rep_of(u64::from(i));
-    make_segment(&mut segs, alloc, uid, 1 + 2 * u16::from(i), 512)?;
+    make_segment(
+        &mut segs,
+        alloc,
+        uid,
+        1 + 2 * u16::from(i),
+        MOST_WORDS as u16,
+    )?;
     Ok(segs)
 }
 
@@ -296,7 +305,7 @@ fn boot_life(alloc: Global, i: u8, texts: &[UserText]) -> Result<Life, AllocErro
 // Enrols a segment.
 fn enrol(life: &mut Life, alloc: Global, uid: u64) -> Result<(), AllocError>
     requires new { at life.old uid ≡ None }
-    requires room { size life.old < 512 }
+    requires room { size life.old < MOST_OBJECTS }
     ensures { OnOk result (life.new ≡ put life.old uid kinds.Segment) }
 {
     let call = LevelCall::Enrol {

@@ -26,7 +26,7 @@ pub(crate) struct Ongoing {
 }
 
 impl Ongoing {
-    /// Nobody holds a lock, and no request is open. A refusal is for memory.
+    /// Nobody holds a lock, and no request is open. `Err` only where memory runs out.
     pub fn new(alloc: Global, script: &Script, users: &[Private]) -> Result<Ongoing, AllocError>
         requires script { IsWellFormed script.now }
         requires few { length users.now ≤ 8 }
@@ -84,7 +84,8 @@ impl Ongoing {
         }
     }
 
-    /// Whether the plan of a user's request may go on, among so many users: with a call under a lock that the user holds or may take, or
+    /// Whether the plan of a user's request may go on, among so many users: with a call under a lock that the user
+    /// holds or may take, or
     /// with the close.
     pub fn may_go(&self, users: u8, user: u8) -> bool
         requires users { users ≡ length self.now.held }

@@ -1,5 +1,6 @@
 // The plan of a request, run call by call.
 ghost use Rattle.std.specs.Prelude.{◌≡◌, ◌≤◌, ◌<◌, [], ◌∷◌, ◌++◌, length, slice_get, Some, IfOk, OnOk, IfErr, OnErr};
+ghost use Rattle.psos_limits.specs.declared.TheConstants.{MOST_CODES, MOST_CALLS, TRACE_ROOM};
 ghost use Rattle.psos_calls.specs.declared.level_call.LevelCall.{LevelCall};
 ghost use Rattle.psos_calls.specs.Language.Request.{InRange};
 ghost use Rattle.psos_calls.specs.Language.User.{User};
@@ -49,7 +50,7 @@ pub(crate) fn make<B: Store>(
 ) -> Result<(), StopCause>
     requires level { level_of call.now ≡ level }
     requires can { Can (levels_of levels.old) call.now }
-    requires room { length trace.old < 64 }
+    requires room { length trace.old < TRACE_ROOM }
     ensures levels { OnOk result (levels_of levels.new ≡ (act (levels_of levels.old) call.now).0) }
     ensures trace { OnOk result (trace.new ≡ trace.old ++ record {
       level = level;
@@ -83,10 +84,10 @@ pub(crate) fn perform<B: Store>(
 ) -> Result<Closing, StopCause>
     ghost me: { User }
     requires user { slice_get levels.old.privates.items u ≡ Some me }
-    requires in_range { InRange 64 request.now }
+    requires in_range { InRange MOST_CODES request.now }
     requires lists { HasLists (levels_of levels.old) }
     requires can { CanRun (plan_of me request.now) (levels_of levels.old) }
-    requires few { length (run_plan (plan_of me request.now) (levels_of levels.old)).calls ≤ 44 }
+    requires few { length (run_plan (plan_of me request.now) (levels_of levels.old)).calls ≤ MOST_CALLS }
     requires empty { trace.old ≡ [] }
     ensures ran { IfOk result (λ c. IsPlanRun (run_plan (plan_of me request.now) (levels_of levels.old))
         (levels_of levels.new) (calls_in trace.new) c.reply c.effect) }

@@ -1,5 +1,6 @@
 // All requests of a script, in the serial order.
 ghost use Rattle.std.specs.Prelude.{◌≡◌, ◌≤◌, ◌<◌, ◌+◌, [], length, map, sum_by, OnOk};
+ghost use Rattle.psos_limits.specs.declared.TheConstants.{MOST_LINES};
 ghost use Rattle.psos_calls.specs.Language.Script.{IsWellFormed, user_script};
 ghost use Rattle.psos_model.specs.Run.{is_open};
 ghost use Rattle.psos_model.specs.Events.Serial.{IsCoreStart};
@@ -29,7 +30,7 @@ fn phases_of(users: &[UserText]) -> usize
 
 // How many of a user's requests stand before phase p.
 fn asked_before(phases: &[Vec<Request>], p: usize) -> usize
-    requires few { sum_by (λ q. length q + 1) (map (λ q. q.items) phases.now) ≤ 241 }
+    requires few { sum_by (λ q. length q + 1) (map (λ q. q.items) phases.now) ≤ MOST_LINES + 1 }
     ensures { result ≡ asked_before (map (λ q. q.items) phases.now) p }
 {
     if p == 0 {

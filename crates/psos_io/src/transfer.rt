@@ -5,10 +5,11 @@ ghost use Rattle.psos_io.specs.Causes.{Rose};
 ghost use Rattle.psos_io.specs.Bytes.{AppendsFront};
 
 use crate::{Failed, Sink, Source};
+use psos_limits::MOST_INPUT;
 use std::alloc::Global;
 
 /// How many bytes `read_all` reads at most: one more than an input may have.
-pub const MOST: usize = 1_048_577;
+pub const MOST: usize = MOST_INPUT + 1;
 
 // How many bytes one call asks for.
 const PIECE: usize = 4096;

@@ -32,7 +32,7 @@ pub(crate) struct Coming {
 }
 
 impl Coming {
-    /// That of user u's next request. There is room for one arrival more. An error is for memory.
+    /// That of user u's next request. There is room for one arrival more. `Err` only where memory runs out.
     pub fn of(alloc: Global, flat: &Flat, script: &Script, user: u8) -> Result<Coming, AllocError>
         requires script { IsWellFormed script.now }
         requires state { CanStep flat.now user }

@@ -19,7 +19,8 @@ use psos_model::{Flat, Place, Source, reg_place};
 use psos_words::Word;
 use std::alloc::{AllocError, Global};
 
-/// What each request of a run put where, the oldest in front; and for each user and depth the registers of the open body
+/// What each request of a run put where, the oldest in front; and for each user and depth the registers of the open
+/// body
 /// there, where it is not the innermost.
 #[derive(Drop)]
 pub(crate) struct Origins {
@@ -28,7 +29,7 @@ pub(crate) struct Origins {
 }
 
 impl Origins {
-    /// No request. An error is for memory.
+    /// No request. `Err` only where memory runs out.
     pub fn new(alloc: Global) -> Result<Origins, AllocError>
         ensures past { IfOk result (λ o. o.past.items ≡ []) }
         ensures callers { IfOk result (λ o. length o.callers.items ≡ 32) }
@@ -61,7 +62,7 @@ impl Origins {
         }
     }
 
-    /// What the next request of a user will put, with room to keep it. An error is for memory.
+    /// What the next request of a user will put, with room to keep it. `Err` only where memory runs out.
     pub fn coming(
         &mut self,
         alloc: Global,

@@ -21,7 +21,8 @@ use psos_model::{Flat, Place};
 use std::alloc::{AllocError, Global};
 use std::snapshot::Snapshot;
 
-/// The flat state of a run, with the users that were answered so far, what each request put where, and, for clauses alone,
+/// The flat state of a run, with the users that were answered so far, what each request put where, and, for clauses
+/// alone,
 /// the script that boot took (docs/promises.md, "Runs" and "Origins").
 #[derive(Drop)]
 pub struct Watched {
@@ -32,7 +33,7 @@ pub struct Watched {
 }
 
 impl Watched {
-    /// The flat state at boot, with nothing answered. A refusal is for memory.
+    /// The flat state at boot, with nothing answered. `Err` only where memory runs out.
     pub fn boot(alloc: Global, script: &Script) -> Result<Watched, AllocError>
         requires { IsWellFormed script.now }
         ensures script { IfOk result (λ w. script_of w ≡ script.now) }
@@ -77,7 +78,7 @@ impl Watched {
     /// Answers the next request of a user that has one left (`Flat::left`), and gives its line; the stamp is the number
     /// of requests that were answered before. After it the state is that of the order with this user more, and the
     /// laws of runs hold of it (docs/promises.md, "Sound states", "Origins", "Guarded, kept, sealed" and "Held back,
-    /// confined"). An error is for memory and changes nothing.
+    /// confined"). `Err` only where memory runs out: nothing is changed.
     pub fn step(&mut self, alloc: Global, script: &Script, user: u8) -> Result<Line, AllocError>
         requires watched { IsWatched self.old }
         requires script { script_of self.old ≡ script.now }

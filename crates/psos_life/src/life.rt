@@ -5,7 +5,8 @@ ghost use Rattle.psos_calls.specs.declared.level.Level.TheVariants.{L11};
 ghost use Rattle.psos_calls.specs.Levels.{AddsRowAt};
 ghost use Rattle.psos_calls.specs.Levels.Level11.{room, act11, Can11};
 
-use psos_calls::{Kind, LevelAnswer, LevelCall, LevelFault, Refusal, Tab, limits};
+use psos_calls::{Kind, LevelAnswer, LevelCall, LevelFault, Refusal, Tab};
+use psos_limits::MOST_OBJECTS;
 use psos_table::Table;
 use std::alloc::{AllocError, Global};
 use std::marker::Model;
@@ -46,7 +47,7 @@ impl Life {
     fn room(&self) -> LevelAnswer
         ensures { result ≡ room self.now }
     {
-        if self.kinds.len() < limits::MOST_OBJECTS {
+        if self.kinds.len() < MOST_OBJECTS {
             LevelAnswer::Done
         } else {
             LevelAnswer::No(Refusal::Exhausted(Tab::Objects))

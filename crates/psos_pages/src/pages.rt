@@ -1,5 +1,6 @@
 // Level 7.
 ghost use Rattle.std.specs.Prelude.{◌≡◌, ◌≤◌, ◌<◌, ◌/◌, ℕ, List, Option, Some, None, replicate, length, slice_set, IfOk, IfErr, OnErr};
+ghost use Rattle.psos_limits.specs.declared.TheConstants.{SLOTS, MOST_WORDS, MOST_PAGE_FRAMES, LEAST_PAGE_FRAMES};
 ghost use Rattle.psos_io.specs.Causes.{HasCause};
 ghost use Rattle.psos_words.specs.Words.{zeros, word_at};
 ghost use Rattle.psos_calls.specs.Levels.Level7.{Can7, IsTaken, act7, around, first_free, page_words, place_in_slot, with_words, written};
@@ -7,6 +8,7 @@ ghost use Rattle.psos_calls.specs.Levels.Level7.{Can7, IsTaken, act7, around, fi
 use crate::words::{Words, clear, page_at, place, put_four, zero_words};
 use psos_calls::{LevelAnswer, LevelCall, LevelFault};
 use psos_io::Store;
+use psos_limits::SLOTS;
 use psos_store::Slots;
 use psos_words::{Page, Word};
 use std::alloc::{AllocError, Global};
@@ -31,23 +33,23 @@ impl<B: Store> Model for Pages<B> {
 
     ghost view = { λ p. record { slots = slots_of p.taken p.words.items; store = p.store } };
 
-    ghost invariant = { λ p. (521 ≤ vec_capacity p.words) × AreThere p.taken p.words.items };
+    ghost invariant = { λ p. (SLOTS ≤ vec_capacity p.words) × AreThere p.taken p.words.items };
 }
 
 impl<B: Store> Pages<B> {
     /// All slots free, over this store, with a number of frames from 8 to 256. All memory is taken here. `Err` only where
     /// memory runs out: the store goes. The number of frames has no effect today, and no call of the store is made.
     pub fn new(alloc: Global, frames: u16, store: B) -> Result<Pages<B>, AllocError>
-        requires least { 8 ≤ frames }
-        requires most { frames ≤ 256 }
-        ensures free { IfOk result (λ p. p.slots ≡ replicate 521 None) }
+        requires least { LEAST_PAGE_FRAMES ≤ frames }
+        requires most { frames ≤ MOST_PAGE_FRAMES }
+        ensures free { IfOk result (λ p. p.slots ≡ replicate SLOTS None) }
         ensures store { IfOk result (λ p. p.store ≡ store) }
     {
         // Frames come with paging: until then all pages lie in memory.
         let _frames = frames;
         Ok(Pages {
             taken: Slots::new(alloc),
-            words: Vec::with_capacity(alloc, 521)?,
+            words: Vec::with_capacity(alloc, SLOTS)?,
             store,
         })
     }
@@ -76,7 +78,7 @@ impl<B: Store> Pages<B> {
     fn take(&mut self) -> u16
         requires { first_free self.old.slots < length self.old.slots }
         ensures slot { result ≡ first_free self.old.slots }
-        ensures slots { self.new.slots ≡ slice_set self.old.slots (first_free self.old.slots) (Some (zeros 512)) }
+        ensures slots { self.new.slots ≡ slice_set self.old.slots (first_free self.old.slots) (Some (zeros MOST_WORDS)) }
         ensures store { self.new.store ≡ self.old.store }
     {
         let Some(slot) = self.taken.take() else {

@@ -1,23 +1,25 @@
 // The 512 words of a slot.
 ghost use Rattle.std.specs.Prelude.{◌≡◌, ◌≤◌, ◌+◌, ◌*◌, ◌<◌, take, drop, length};
+ghost use Rattle.psos_limits.specs.declared.TheConstants.{MOST_WORDS};
 ghost use Rattle.psos_words.specs.Words.{zeros};
 ghost use Rattle.psos_calls.specs.Levels.Level7.{place_in_slot, written};
 
+use psos_limits::MOST_WORDS;
 use psos_words::{Page, Word};
 
 /// The words of the eight pages of a slot.
-pub type Words = [Word; 512];
+pub type Words = [Word; MOST_WORDS];
 
 /// All words data 0.
 pub fn zero_words() -> Words
-    ensures { result ≡ zeros 512 }
+    ensures { result ≡ zeros MOST_WORDS }
 {
-    [Word::Data(0); 512]
+    [Word::Data(0); MOST_WORDS]
 }
 
 /// Makes all words data 0, in their place.
 pub fn clear(words: &mut Words)
-    ensures { words.new ≡ zeros 512 }
+    ensures { words.new ≡ zeros MOST_WORDS }
 {
     words.fill(Word::Data(0));
 }
@@ -33,7 +35,7 @@ pub fn place(page: u16, off: u8) -> usize
 
 /// Writes four words from a place on, and changes no other.
 pub fn put_four(words: &mut Words, at: usize, four: &[Word; 4])
-    requires { at + 4 ≤ 512 }
+    requires { at + 4 ≤ MOST_WORDS }
     ensures { words.new ≡ written words.old at four.now }
 {
     words[at..at + 4].copy_from_slice(four);
@@ -41,7 +43,7 @@ pub fn put_four(words: &mut Words, at: usize, four: &[Word; 4])
 
 /// The page whose words begin at a place.
 pub fn page_at(words: &Words, at: usize) -> Page
-    requires { at + 64 ≤ 512 }
+    requires { at + 64 ≤ MOST_WORDS }
     ensures { result ≡ take 64 (drop at words.now) }
 {
     let mut page = [Word::Data(0); 64];

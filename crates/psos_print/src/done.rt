@@ -30,7 +30,7 @@ fn put_done(alloc: Global, out: &mut Vec<u8>, n: u64, calls: u64) -> Result<(), 
 }
 
 /// The last line of a run: the numbers of its requests and of its level calls (docs/program.md, "Output"). The entries
-/// made fewer than 2^64 level calls. It fails only for want of memory.
+/// made fewer than 2^64 level calls. `Err` only where memory runs out.
 pub fn done_line(alloc: Global, entries: &Entries<Entry>) -> Result<Vec<u8>, AllocError>
     requires { calls_of entries.now < 2 ^ 64 }
     ensures { IfOk result (λ text. text.items ≡ done_text (length entries.now) (calls_of entries.now)) }

@@ -53,7 +53,7 @@ pub(crate) fn put_parts(
 }
 
 /// Appends a line as it is printed, with its end of line: the user's name, the place, the stamp and the reply. The
-/// name is that of the line's user. It fails only for want of memory, and then `out` holds what it held.
+/// name is that of the line's user. `Err` only where memory runs out, and then `out` holds what it held.
 ///
 /// A line stands by itself so: the program psos_compare prints the lines of the plain program with it. The lines of a
 /// run go by `put_transcript`, which writes them in pieces.

@@ -4,9 +4,10 @@ ghost use Rattle.psos_calls.specs.Locks.{part_of};
 ghost use Rattle.psos_procs.specs.Mailbox.{process_of, box_posted, box_drawn, act_box};
 
 use arrayvec::ArrayVec;
-use psos_calls::{Kind, LevelAnswer, LevelCall, Refusal, Right, Tab, has, limits, part_of};
+use psos_calls::{Kind, LevelAnswer, LevelCall, Refusal, Right, Tab, has, part_of};
 use psos_caps::{Cap, Rights, Uid};
 use psos_guards::admits;
+use psos_limits::MOST_MESSAGES;
 use psos_words::Word;
 use std::marker::Model;
 
@@ -92,7 +93,7 @@ impl Mailbox {
         if let Err(bit) = admits(Rights::of(1), word) {
             return LevelAnswer::No(Refusal::Guarded(bit));
         }
-        if self.words.len() >= limits::MOST_MESSAGES {
+        if self.words.len() >= MOST_MESSAGES {
             return LevelAnswer::No(Refusal::Exhausted(Tab::Mailbox));
         }
         self.words.push(word);

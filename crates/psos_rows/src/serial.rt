@@ -49,7 +49,8 @@ fn line(
 
 /// All requests of a script, answered by the plain program from boot (docs/promises.md, "Runs"). Always the first user
 /// of the script that has a request left is next: phase by phase, in a phase user by user, and the lines of called
-/// bodies one after another. The lines are in the order of the answers, stamped from 0. An error is for memory.
+/// bodies one after another. The lines are in the order of the answers, stamped from 0. `Err` only where memory runs
+/// out.
 pub fn serial_lines(alloc: Global, script: &Script) -> Result<Vec<Line>, AllocError>
     requires { IsWellFormed script.now }
     ensures { IfOk result (λ lines. IsSerialRun script.now lines.items) }

@@ -2,6 +2,7 @@
 use Rattle.std.proofs.Common.{◌≡◌, ℕ, ◌+◌, ◌≤◌, List, [], ◌∷◌, ◌++◌, length, map, refl, subst, arith}
 use Rattle.std.specs.Prelude.{IsTrue, codes, sum_by}
 use Rattle.std.specs.List.{AllByRecursion, flat_map}
+use Rattle.psos_limits.specs.declared.TheConstants.{MOST_LINES}
 use Rattle.psos_text.specs.Name.{is_name}
 use Rattle.psos_calls.specs.declared.request.Request.{Request}
 use Rattle.psos_calls.specs.Language.Request.{InRange}
@@ -46,7 +47,7 @@ pub record IsAsker (blocks : ℕ) (u : UserScript) (count : ℕ) : Type 0 where
   pub named : IsTrue (is_name u.name)
   pub some : 1 ≤ length u.phases
   pub counted : sum_by (λ (p : List Request). length p + 1) u.phases ≡ count + 1
-  pub few : count ≤ 240
+  pub few : count ≤ MOST_LINES
   pub range : AllByRecursion (AllByRecursion (InRange blocks)) u.phases
 
 abbrev pub AreAskers : ℕ → List UserScript → Type 0

@@ -4,6 +4,7 @@ use Rattle.std.specs.Prelude.{IsTrue, codes, sum_by}
 use Rattle.std.specs.List.{AllByRecursion}
 use Rattle.std.proofs.lemmas.List.{append-nil, map-append, length-map}
 use Rattle.std.proofs.lemmas.List.Sums.{sum_by-append, sum_by-cons}
+use Rattle.psos_limits.specs.declared.TheConstants.{MOST_LINES}
 use Rattle.psos_text.specs.Name.{is_name}
 use Rattle.psos_calls.specs.declared.request.Request.{Request}
 use Rattle.psos_calls.specs.Language.Request.{InRange}
@@ -169,7 +170,7 @@ user_pending (UserPending name phases requests count) e = (name, phases, request
 other_phases : (us : List UserScript) (name : Text) (ps qs : List (List Request)) → map named (us ++ record { name = name; phases = ps } ∷ []) ≡ map named (us ++ record { name = name; phases = qs } ∷ [])
 other_phases us name ps qs = map-append named us (record { name = name; phases = ps } ∷ []) ∙ sym (map-append named us (record { name = name; phases = qs } ∷ []))
 
-next_asker : (blocks : ℕ) (name : Text) (phases : List (List Request)) (count : ℕ) → count < 240 → IsAsker blocks (record { name = name; phases = phases }) count → IsAsker blocks (record { name = name; phases = phases ++ [] ∷ [] }) (count + 1)
+next_asker : (blocks : ℕ) (name : Text) (phases : List (List Request)) (count : ℕ) → count < MOST_LINES → IsAsker blocks (record { name = name; phases = phases }) count → IsAsker blocks (record { name = name; phases = phases ++ [] ∷ [] }) (count + 1)
 next_asker blocks name phases count few h = record {
   named = h.named;
   some = omega (arith, length-append phases ([] ∷ []));
@@ -178,7 +179,7 @@ next_asker blocks name phases count few h = record {
   range = all_append (AllByRecursion (InRange blocks)) phases ([] ∷ []) h.range (tt, tt);
 }
 
-next_draft : (d : Read) (name : Text) (phases : List (List Request)) (requests : List Request) (count : ℕ) → count < 240 → IsDraft (with_now d (UserPending name phases requests count)) → IsDraft (with_now d (phased (UserPending name phases requests count)))
+next_draft : (d : Read) (name : Text) (phases : List (List Request)) (requests : List Request) (count : ℕ) → count < MOST_LINES → IsDraft (with_now d (UserPending name phases requests count)) → IsDraft (with_now d (phased (UserPending name phases requests count)))
 next_draft d name phases requests count few h = record {
   labels = h.labels;
   names = h.names ∙ other_phases d.users name (phases ++ requests ∷ []) ((phases ++ requests ∷ []) ++ [] ∷ []);
@@ -195,7 +196,7 @@ pub phase_step : (d : Read) (ws : List Text) → head_cause (seen_in d) Phase ws
 phase_step d ws e h =
     let p = phase_parts (seen_in d) ws e in
     let o = user_pending d.now p.section in
-    let few : o.3 < 240 = omega (arith, p.few, ap count_in o.4) in
+    let few : o.3 < MOST_LINES = omega (arith, p.few, ap count_in o.4) in
     let Q : Pending → Type 0 = λ x. IsDraft (with_now d x) in
     let k = subst Q o.4 h in
     let P : Pending → Type 0 = λ x. Steps (with_now d x) (with_now d (phased x)) (codes "phase" ∷ []) in
@@ -209,7 +210,7 @@ phase_step d ws e h =
 
 -- ---- requests
 
-last_asker : (blocks : ℕ) (name : Text) (phases : List (List Request)) (rs : List Request) (r : Request) (count : ℕ) → count < 240 → InRange blocks r
+last_asker : (blocks : ℕ) (name : Text) (phases : List (List Request)) (rs : List Request) (r : Request) (count : ℕ) → count < MOST_LINES → InRange blocks r
     → IsAsker blocks (record { name = name; phases = phases ++ rs ∷ [] }) count → IsAsker blocks (record { name = name; phases = phases ++ (rs ++ r ∷ []) ∷ [] }) (count + 1)
 last_asker blocks name phases rs r count few range h =
     let f : List Request → ℕ = λ p. length p + 1 in

@@ -5,6 +5,7 @@ use Rattle.std.specs.List.{AllByRecursion}
 use Rattle.std.specs.Str.{bytes_eq}
 use Rattle.std.proofs.lemmas.Bool.{true≢false}
 use Rattle.std.proofs.lemmas.Slice.Eq.{bytes_eq-Decides}
+use Rattle.psos_limits.specs.declared.TheConstants.{MOST_LINES}
 use Rattle.psos_text.specs.Name.{is_name}
 use Rattle.psos_calls.specs.declared.request.Request.{Request}
 use Rattle.psos_calls.specs.Language.Script.{AreDistinct}
@@ -185,7 +186,7 @@ in_user InUser e = refl
 pub record PhaseParts (s : Seen) (ws : List Text) : Type 0 where
   pub section : s.section ≡ InUser
   pub none : ws ≡ []
-  pub few : s.count < 240
+  pub few : s.count < MOST_LINES
 
 pub phase_parts : (s : Seen) (ws : List Text) → head_cause s Phase ws ≡ None → PhaseParts s ws
 unfolding head_cause many_cause
@@ -193,7 +194,7 @@ phase_parts s ws e =
     let p : HeadParts s Phase [] ws = no_part _ _ _ _ _ _ _ e in
     let section = in_user s.section p.outside in
     let full : leb (line_limit s.section) s.count ≡ false = twice_none _ _ p.many in
-    let full240 : leb 240 s.count ≡ false = ap (λ (q : Section). leb (line_limit q) s.count) (sym section) ∙ full in
+    let full240 : leb MOST_LINES s.count ≡ false = ap (λ (q : Section). leb (line_limit q) s.count) (sym section) ∙ full in
     record { section = section; none = no_operand ws p.operands; few = grind (arith, full240) }
 
 -- a request stands where one may

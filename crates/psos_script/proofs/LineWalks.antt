@@ -5,6 +5,7 @@ use Rattle.std.specs.List.{AllByRecursion, flat_map}
 use Rattle.std.proofs.lemmas.Bool.{lt-leb}
 use Rattle.std.proofs.lemmas.List.{append-nil}
 use Rattle.std.proofs.lemmas.List.Sums.{sum_by-cons}
+use Rattle.psos_limits.specs.declared.TheConstants.{MOST_LINES}
 use Rattle.psos_text.specs.Name.{is_name}
 use Rattle.psos_calls.specs.declared.request.Request.{Request}
 use Rattle.psos_calls.specs.Language.Request.{InRange}
@@ -97,9 +98,9 @@ pub end_fine : (ls ns : List Text) (n : ℕ) → 1 ≤ n → head_cause (record 
 unfolding head_cause is_outside is_no_end is_late_code operands_cause known_cause empty_cause many_cause
 end_fine ls ns n some = rw (not_zero n some) refl
 
-pub phase_fine : (ls ns : List Text) (n : ℕ) → n < 240 → head_cause (record { section = InUser; labels = ls; names = ns; count = n }) Phase [] ≡ None
+pub phase_fine : (ls ns : List Text) (n : ℕ) → n < MOST_LINES → head_cause (record { section = InUser; labels = ls; names = ns; count = n }) Phase [] ≡ None
 unfolding head_cause is_outside is_no_end is_late_code operands_cause known_cause empty_cause many_cause
-phase_fine ls ns n few = rw (lt-leb 240 n few) refl
+phase_fine ls ns n few = rw (lt-leb MOST_LINES n few) refl
 
 ask_fine : (p : Section) (ls ns : List Text) (n : ℕ) (v : Verb) (ws : List Text) → p ≢ Outside → row_limit_cause (record { section = p; labels = ls; names = ns; count = n }) v ws (line_limit p) ≡ None
     → head_cause (record { section = p; labels = ls; names = ns; count = n }) (Asks v) ws ≡ None
@@ -138,7 +139,7 @@ body_walk b rest label before (r ∷ rs) ready few range =
     Walk-cons d (with_now b (BodyPending label (before ++ r ∷ []))) (with_now b (BodyPending label (before ++ r ∷ rs))) (request_words (b.labels ++ rest) r) (requests_lines (b.labels ++ rest) rs) one.0 one.1
     (subst P (append_assoc before (r ∷ []) rs) others)
 
-pub phase_walk : (b : Read) (rest : List Text) (name : Text) (phases : List (List Request)) (before after : List Request) (count : ℕ) → IsReady b.labels rest → count + length after ≤ 240
+pub phase_walk : (b : Read) (rest : List Text) (name : Text) (phases : List (List Request)) (before after : List Request) (count : ℕ) → IsReady b.labels rest → count + length after ≤ MOST_LINES
     → AllByRecursion (InRange (length b.labels)) after
     → Walk (with_now b (UserPending name phases before count)) (requests_lines (b.labels ++ rest) after) (with_now b (UserPending name phases (before ++ after) (count + length after)))
 phase_walk b rest name phases before [] count ready few range =
@@ -167,7 +168,7 @@ pub record EndsInUser (b d : Read) (lines : List (List Text)) (name : Text) (pha
 abbrev size : List (List Request) → ℕ
 size phases = sum_by (λ (p : List Request). length p + 1) phases
 
-pub later_walk : (b : Read) (rest : List Text) (name : Text) (done : List (List Request)) (last : List Request) (count : ℕ) (later : List (List Request)) → IsReady b.labels rest → count + size later ≤ 240
+pub later_walk : (b : Read) (rest : List Text) (name : Text) (done : List (List Request)) (last : List Request) (count : ℕ) (later : List (List Request)) → IsReady b.labels rest → count + size later ≤ MOST_LINES
     → AllByRecursion (AllByRecursion (InRange (length b.labels))) later
     → EndsInUser b (with_now b (UserPending name done last count)) (flat_map (later_lines (b.labels ++ rest)) later) name ((done ++ last ∷ []) ++ later)
 later_walk b rest name done last count [] ready few range = record { done = done; last = last; count = count; walk = refl; is = sym (append-nil (done ++ last ∷ [])) }

@@ -2,6 +2,7 @@
 use Rattle.std.specs.Prelude.{ℕ, ◌+◌, Bool, true, false, ◌==◌, not, if◌then◌else◌, nat_lt, nat_le, List, [], ◌∷◌, ◌++◌, length, get_or, Option, Some, None, option_map}
 use Rattle.std.specs.List.{list_all, list_any}
 use Rattle.std.specs.Str.{bytes_eq}
+use Rattle.psos_limits.specs.declared.TheConstants.{MOST_LINES, MOST_CODES, MOST_INPUT, MOST_LINE_BYTES}
 use Rattle.psos_text.specs.Lines.{lines_of, words_of}
 use Rattle.psos_model.specs.Text.Operands.{Text}
 use Rattle.psos_model.specs.Text.Spelling.{is_skipped, is_printable}
@@ -167,13 +168,13 @@ empty_cause h n = None
 -- the limit on lines
 abbrev pub line_limit : Section → ℕ
 line_limit InBody = 16
-line_limit InUser = 240
-line_limit Outside = 240
+line_limit InUser = MOST_LINES
+line_limit Outside = MOST_LINES
 
 -- one user, code block or line too many
 unfoldable pub many_cause : Head → Seen → Option Cause
 many_cause User s = if nat_le 8 (length s.names) then Some C.TooManyUsers else None
-many_cause Code s = if nat_le 64 (length s.labels) then Some C.TooManyCodes else None
+many_cause Code s = if nat_le MOST_CODES (length s.labels) then Some C.TooManyCodes else None
 many_cause Phase s = if nat_le (line_limit s.section) s.count then Some C.TooManyLines else None
 many_cause (Asks v) s = if nat_le (line_limit s.section) s.count then Some C.TooManyLines else None
 many_cause End s = None
@@ -218,7 +219,7 @@ words_cause s (w ∷ ws) = if get_or w 0 0 == 35 then None else headed_cause s (
 -- a line of these bytes
 unfoldable pub line_cause : Seen → List ℕ → Option Cause
 line_cause s line =
-    where_true (nat_lt 200 (length line)) C.LineTooLong
+    where_true (nat_lt MOST_LINE_BYTES (length line)) C.LineTooLong
     or (where_true (not (list_all is_printable line)) C.BadByte
     or words_cause s (words_of line))
 
@@ -244,4 +245,4 @@ fault_from n past (line ∷ lines) = at_line n (line_cause (seen past) line) (fa
 
 -- the number of the least faulty line, and the first cause on it
 unfoldable pub fault_of : List ℕ → Option (ℕ × Cause)
-fault_of bytes = if nat_lt 1048576 (length bytes) then Some (0, C.InputTooLong) else fault_from 1 [] (lines_of bytes)
+fault_of bytes = if nat_lt MOST_INPUT (length bytes) then Some (0, C.InputTooLong) else fault_from 1 [] (lines_of bytes)

@@ -12,6 +12,7 @@ crate::specs::Fault::known_cause, crate::specs::Fault::empty_cause, crate::specs
 crate::specs::Fault::end_cause, crate::specs::Fault::in_body))]
 
 ghost use Rattle.std.specs.Prelude.{◌≡◌, ◌<◌, ◌≤◌, [], ◌∷◌, ◌++◌, length, map, OnOk, IfOk};
+ghost use Rattle.psos_limits.specs.declared.TheConstants.{MOST_LINES};
 ghost use Rattle.psos_text.specs.Lines.{words_of};
 ghost use Rattle.psos_text.specs.Name.{name_text};
 ghost use Rattle.psos_script.specs.Fault.{head_cause, row_limit_cause, end_cause as missing_cause};
@@ -26,8 +27,8 @@ use crate::rows::request;
 use crate::section::Section;
 use crate::unfinished::Unfinished;
 use crate::verb::Verb;
-use psos_calls::limits::{MOST_BODY, MOST_CODES, MOST_LINES, MOST_USERS};
 use psos_calls::{Code, Request, Script, UserText};
+use psos_limits::{MOST_BODY, MOST_CODES, MOST_LINES, MOST_USERS};
 use psos_text::Name;
 use std::alloc::{AllocError, Global};
 
@@ -81,7 +82,7 @@ impl Draft {
         Ok(())
     }
 
-    // A block begins. It fails only for want of memory.
+    // A block begins. `Err` only where memory runs out.
     fn begin_code(&mut self, alloc: Global, label: Name) -> Result<(), AllocError>
         requires room { length (read self.old).labels < 64 }
         ensures { OnOk result (read self.new ≡ with_code (read self.old) (name_text label)) }
@@ -116,7 +117,7 @@ impl Draft {
         Ok(())
     }
 
-    // What is unfinished ends, and a user begins. It fails only for want of memory.
+    // What is unfinished ends, and a user begins. `Err` only where memory runs out.
     fn begin_user(&mut self, alloc: Global, name: Name) -> Result<(), AllocError>
         requires room { length (read self.old).names < 64 }
         ensures { OnOk result (read self.new ≡ with_user (closed (read self.old)) (name_text name)) }
@@ -185,7 +186,7 @@ impl Draft {
 
     // A request where one may stand, and so many lines.
     fn add_request(&mut self, verb: Verb, text: &[u8], limit: usize) -> Result<(), LineFault>
-        requires limit { limit ≤ 240 }
+        requires limit { limit ≤ MOST_LINES }
         ensures { Reads (row_limit_cause (seen_in (read self.old)) verb (words_of text.now) limit) (taken (read self.old) (Head.Asks verb) (words_of text.now)) result (read self.new) }
     {
         match request(verb, &self.labels, text) {
@@ -200,7 +201,7 @@ impl Draft {
         }
     }
 
-    // What is unfinished ends. It fails only for want of memory.
+    // What is unfinished ends. `Err` only where memory runs out.
     fn close(&mut self) -> Result<(), AllocError>
         ensures { OnOk result (read self.new ≡ closed (read self.old)) }
     {
@@ -251,7 +252,7 @@ impl Draft {
         None
     }
 
-    // The script of all lines. It fails only for want of memory.
+    // The script of all lines. `Err` only where memory runs out.
     pub(crate) fn finish(self) -> Result<Script, AllocError>
         ensures { IfOk result (λ s. s ≡ script_of (read self)) }
     {

@@ -42,7 +42,7 @@ impl NameList {
         self.names.len()
     }
 
-    // One name more. It fails only for want of memory.
+    // One name more. `Err` only where memory runs out.
     pub(crate) fn push(&mut self, name: Name) -> Result<(), AllocError>
         requires room { length self.old < 64 }
         ensures ok { OnOk result (self.new ≡ self.old ++ name_text name ∷ []) }

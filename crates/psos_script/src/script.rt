@@ -11,7 +11,7 @@ use crate::draft::Draft;
 use crate::fault::{ReadFault, ScriptFault};
 use crate::lines::read_lines;
 use psos_calls::Script;
-use psos_calls::limits::MOST_INPUT;
+use psos_limits::MOST_INPUT;
 use std::alloc::Global;
 
 /// The script that the bytes spell (docs/program.md, "Scripts"). The fault is the least faulty line with the first
@@ -41,7 +41,7 @@ fn script(alloc: Global, bytes: &[u8]) -> Result<Script, ReadFault>
     }
 }
 
-// The script of a draft. It fails only for want of memory.
+// The script of a draft. `Err` only where memory runs out.
 fn finished(draft: Draft) -> Result<Script, ReadFault>
     ensures { Finds None (λ s. s) (script_of (read draft)) result }
 {

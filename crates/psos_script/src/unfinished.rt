@@ -1,5 +1,6 @@
 // What is not finished.
 ghost use Rattle.std.specs.Prelude.{◌≡◌, ◌<◌, OnOk};
+ghost use Rattle.psos_limits.specs.declared.TheConstants.{MOST_LINES};
 ghost use Rattle.psos_script.specs.Draft.{pending, section_in, count_in, added, phased};
 
 use crate::section::Section;
@@ -47,9 +48,9 @@ impl Unfinished {
         }
     }
 
-    // One request more. It fails only for want of memory.
+    // One request more. `Err` only where memory runs out.
     pub(crate) fn add(&mut self, request: Request) -> Result<(), AllocError>
-        requires room { count_in (pending self.old) < 240 }
+        requires room { count_in (pending self.old) < MOST_LINES }
         ensures { OnOk result (pending self.new ≡ added (pending self.old) request) }
     {
         match self {
@@ -67,9 +68,9 @@ impl Unfinished {
         Ok(())
     }
 
-    // One phase more. It fails only for want of memory.
+    // One phase more. `Err` only where memory runs out.
     pub(crate) fn phase(&mut self, alloc: Global) -> Result<(), AllocError>
-        requires room { count_in (pending self.old) < 240 }
+        requires room { count_in (pending self.old) < MOST_LINES }
         ensures { OnOk result (pending self.new ≡ phased (pending self.old)) }
     {
         match self {

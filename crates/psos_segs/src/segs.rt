@@ -2,6 +2,7 @@
 ghost use Rattle.std.specs.Prelude.{◌≡◌, ◌+◌, ◌<◌, ◌≤◌, ◌↔◌, Some, None, Ok, Err, IsTrue, IfOk, IfErr, IfSome, OnOk, OnErr, alloc_error};
 ghost use Rattle.std.specs.Option.{option_map};
 ghost use Rattle.std.specs.FinMap.{empty};
+ghost use Rattle.psos_limits.specs.declared.TheConstants.{SLOTS, MOST_WORDS};
 ghost use Rattle.psos_table.specs.Table.{at, put, without, kept};
 ghost use Rattle.psos_calls.specs.declared.level.Level.TheVariants.{L8};
 ghost use Rattle.psos_calls.specs.Levels.{AddsRowAt};
@@ -12,10 +13,11 @@ ghost use Rattle.psos_segs.specs.Within.{as_view};
 use crate::over::Over;
 use crate::view::{View, barred_by, fits_in};
 use psos_calls::{
-    Kind, LevelAnswer, LevelCall, LevelFault, Refusal, Right, SegRow, Tab, WinRow, has, limits,
+    Kind, LevelAnswer, LevelCall, LevelFault, Refusal, Right, SegRow, Tab, WinRow, has,
 };
 use psos_caps::{Cap, Uid};
 use psos_counts::Counted;
+use psos_limits::{MOST_WINDOWS, MOST_WORDS, SLOTS};
 use psos_table::Table;
 use psos_words::Word;
 use std::alloc::{AllocError, Global};
@@ -150,8 +152,8 @@ impl Segs {
     fn view(&self, uid: Uid) -> Option<View>
         ensures is { option_map as_view result ≡ view self.now uid.0 }
         ensures row { IfSome result (λ v. at self.now.segments v.seg.0 ≡ Some v.row) }
-        ensures slot { IfSome result (λ v. v.row.slot < 521) }
-        ensures within { IfSome result (λ v. v.base + v.len ≤ 512) }
+        ensures slot { IfSome result (λ v. v.row.slot < SLOTS) }
+        ensures within { IfSome result (λ v. v.base + v.len ≤ MOST_WORDS) }
     {
         if let Some(row) = self.segments.get(uid.0) {
             return Some(View {
@@ -206,8 +208,8 @@ impl Segs {
 
     // A new segment. `Err` only where memory runs out: the level is unchanged.
     fn make(&mut self, uid: Uid, row: SegRow) -> Result<(), AllocError>
-        requires slot { row.slot < 521 }
-        requires len { row.len ≤ 512 }
+        requires slot { row.slot < SLOTS }
+        requires len { row.len ≤ MOST_WORDS }
         ensures ok { OnOk result (self.new ≡ record self.old { segments = put self.old.segments uid.0 row }) }
         ensures err { OnErr result (self.new ≡ self.old) }
     {
@@ -239,7 +241,7 @@ impl Segs {
         if !fits_in(view, base, len) {
             return LevelAnswer::No(Refusal::Range);
         }
-        if self.windows.len() >= limits::MOST_WINDOWS {
+        if self.windows.len() >= MOST_WINDOWS {
             return LevelAnswer::No(Refusal::Exhausted(Tab::Windows));
         }
         LevelAnswer::Done
@@ -280,9 +282,9 @@ impl Segs {
 
 // Whether a segment may have this slot, and so many words.
 fn is_in_bounds(slot: u16, len: u16) -> bool
-    ensures { IsTrue result ↔ ((slot < 521) × (1 ≤ len) × (len ≤ 512)) }
+    ensures { IsTrue result ↔ ((slot < SLOTS) × (1 ≤ len) × (len ≤ MOST_WORDS)) }
 {
-    (slot as usize) < limits::SLOTS && 1 <= len && (len as usize) <= limits::MOST_WORDS
+    (slot as usize) < SLOTS && 1 <= len && (len as usize) <= MOST_WORDS
 }
 
 // The answer that names a slot.

@@ -1,5 +1,6 @@
 -- Where the least free slot lies, and where it lies after a change.
 use Rattle.std.proofs.Common.{◌≡◌, ℕ, zero, suc, ◌+◌, ◌<◌, ◌≤◌, Bool, true, false, List, [], ◌∷◌, length, get_or, set, arith}
+use Rattle.psos_limits.specs.declared.TheConstants.{SLOTS}
 use Rattle.psos_store.specs.Slots.{least_free}
 
 -- it is one of the slots, or their number
@@ -39,5 +40,5 @@ least_free-give (true ∷ rest) (suc i) zero h b = omega arith
 least_free-give (true ∷ rest) (suc i) (suc n) h b = omega (arith, least_free-give rest i n (omega (arith, h)) (omega (arith, b)))
 
 -- of 521 slots it is at most 521
-pub few_free : (s : List Bool) → length s ≡ 521 → least_free s ≤ 521
+pub few_free : (s : List Bool) → length s ≡ SLOTS → least_free s ≤ SLOTS
 few_free s e = omega (arith, least_free-length s, e)

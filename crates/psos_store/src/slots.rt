@@ -1,7 +1,9 @@
 // The page slots.
 ghost use Rattle.std.specs.Prelude.{◌≡◌, ◌<◌, ◌≤◌, IsTrue, true, false, length, replicate, slice_index_or, slice_set, IfSome, OnSome, IsNone, ◌↔◌};
+ghost use Rattle.psos_limits.specs.declared.TheConstants.{SLOTS};
 ghost use Rattle.psos_store.specs.Slots.{least_free};
 
+use psos_limits::SLOTS;
 use std::alloc::Global;
 use std::marker::Model;
 
@@ -9,7 +11,7 @@ use std::marker::Model;
 /// (docs/levels.md, "Pages and slots").
 #[derive(Drop)]
 pub struct Slots {
-    taken: [bool; 521],
+    taken: [bool; SLOTS],
     // All below are taken.
     first: usize,
 }
@@ -28,19 +30,19 @@ impl Model for Slots {
 impl Slots {
     /// All slots free. It takes no memory: `_alloc` is for slots that do not lie in the value itself.
     pub fn new(_alloc: Global) -> Slots
-        ensures { result ≡ replicate 521 false }
+        ensures { result ≡ replicate SLOTS false }
     {
         Slots {
-            taken: [false; 521],
+            taken: [false; SLOTS],
             first: 0,
         }
     }
 
     /// Whether a slot is taken. The slot is below 521.
     pub fn is_taken(&self, slot: u16) -> bool
-        requires { slot < 521 }
+        requires { slot < SLOTS }
         ensures taken { result ≡ slice_index_or self.now slot false }
-        ensures all { length self.now ≡ 521 }
+        ensures all { length self.now ≡ SLOTS }
     {
         self.taken[slot as usize]
     }
@@ -48,10 +50,10 @@ impl Slots {
     // The least free slot; 521 where there is none.
     fn least(&self) -> usize
         ensures least { result ≡ least_free self.now }
-        ensures few { least_free self.now ≤ 521 }
+        ensures few { least_free self.now ≤ SLOTS }
     {
         let mut slot = self.first;
-        'taken: while slot < 521 && self.taken[slot] {
+        'taken: while slot < SLOTS && self.taken[slot] {
             slot += 1;
         }
         slot
@@ -60,14 +62,14 @@ impl Slots {
     /// Takes the least free slot. None exactly where no slot is free, and then nothing is changed. It takes no memory.
     pub fn take(&mut self) -> Option<u16>
         ensures least { IfSome result (λ slot. slot ≡ least_free self.old) }
-        ensures none { IsNone result ↔ (least_free self.old ≡ 521) }
+        ensures none { IsNone result ↔ (least_free self.old ≡ SLOTS) }
         ensures taken { OnSome result (self.new ≡ slice_set self.old (least_free self.old) true) }
         ensures unchanged { IsNone result → self.new ≡ self.old }
-        ensures all { length self.old ≡ 521 }
+        ensures all { length self.old ≡ SLOTS }
     {
         let slot = self.least();
         self.first = slot;
-        if slot == 521 {
+        if slot == SLOTS {
             return None;
         }
         self.taken[slot] = true;

@@ -5,6 +5,7 @@ use Rattle.std.specs.Str.{bytes_eq}
 use Rattle.std.specs.Vec.Iter.{into_iter_items}
 use Rattle.std.specs.declared.string.String.{String}
 use Rattle.std.specs.declared.vec.IntoIter.{IntoIter}
+use Rattle.psos_limits.specs.declared.TheConstants.{MOST_PAGE_FRAMES, LEAST_PAGE_FRAMES}
 use Rattle.psos_text.specs.Number.{number_of}
 use Rattle.psos_top.specs.declared.command.Command.{Command}
 use Rattle.psos_top.specs.declared.command.Command.TheVariants.{Serial, Turns}
@@ -39,7 +40,7 @@ with_seed (Turns other) seed = Turns (unwrap_or seed other)
 
 -- a number of frames, 8 to 256, that stands for the first time
 abbrev pub frames_in : Option ℕ → Option ℕ → Option ℕ
-frames_in None (Some n) = if nat_le 8 n && nat_le n 256 then Some n else None
+frames_in None (Some n) = if nat_le LEAST_PAGE_FRAMES n && nat_le n MOST_PAGE_FRAMES then Some n else None
 frames_in _ _ = None
 
 -- a seed of a command that takes one, for the first time

@@ -1,6 +1,7 @@
 // A command, from the bytes that go in to those that come out.
 ghost use Rattle.std.specs.Prelude.{◌≡◌, ◌≤◌, ◌<◌, ◌^◌, [], None, Some, IsSome, OnOk, IfOk, IfErr, IfSome, option_map};
 ghost use Rattle.std.specs.Io.KnownBytes.{Keeps};
+ghost use Rattle.psos_limits.specs.declared.TheConstants.{MOST_PAGE_FRAMES, LEAST_PAGE_FRAMES};
 ghost use Rattle.psos_calls.specs.Language.Script.{IsWellFormed};
 ghost use Rattle.psos_model.specs.Flat.Boot.{boot};
 ghost use Rattle.psos_model.specs.Replay.{boot_system};
@@ -75,8 +76,8 @@ fn run_script<K: Sink, B: Store>(
     store: B,
 ) -> Outcome<B>
     requires well_formed { IsWellFormed script }
-    requires least { 8 ≤ frames }
-    requires most { frames ≤ 256 }
+    requires least { LEAST_PAGE_FRAMES ≤ frames }
+    requires most { frames ≤ MOST_PAGE_FRAMES }
     ensures ends { EndsRun command (stream K.took K.faults output.old output.new) (given_by result) script }
     ensures store { IfSome result.store (λ b. result.status ≡ 6) }
     ensures unwritten { result.status ≡ 6 → result.store ≡ None → Keeps (K.took output.old) (K.took output.new) }
@@ -123,8 +124,8 @@ fn run_read<K: Sink, B: Store>(
     store: B,
 ) -> Outcome<B>
     requires well_formed { IfOk read (λ s. IsWellFormed s) }
-    requires least { 8 ≤ frames }
-    requires most { frames ≤ 256 }
+    requires least { LEAST_PAGE_FRAMES ≤ frames }
+    requires most { frames ≤ MOST_PAGE_FRAMES }
     ensures ran { IfOk read (EndsRun command (stream K.took K.faults output.old output.new) (given_by result)) }
     ensures fault { IfErr read (EndsOnFault (stream K.took K.faults output.old output.new) (given_by result)) }
     ensures gone { IfErr read (λ fault. result.store ≡ None) }
@@ -150,8 +151,8 @@ pub(crate) fn run<I: Source, K: Sink, B: Store>(
     output: &mut K,
     store: B,
 ) -> Outcome<B>
-    requires least { 8 ≤ frames }
-    requires most { frames ≤ 256 }
+    requires least { LEAST_PAGE_FRAMES ≤ frames }
+    requires most { frames ≤ MOST_PAGE_FRAMES }
     ensures ends { Ends command (stream I.left I.faults input.old input.new) (stream K.took K.faults output.old output.new) (given_by result) }
     ensures store { StoreEnds B.faults store (stream I.left I.faults input.old input.new) (stream K.took K.faults output.old output.new) result }
 {

@@ -1,5 +1,6 @@
 // The command `serial`.
 ghost use Rattle.std.specs.Prelude.{◌≤◌};
+ghost use Rattle.psos_limits.specs.declared.TheConstants.{MOST_PAGE_FRAMES, LEAST_PAGE_FRAMES};
 ghost use Rattle.psos_top.specs.Outcome.{stream, given_by, Ends, StoreEnds};
 
 use crate::Command;
@@ -19,8 +20,8 @@ pub fn serial_call<I: Source, K: Sink, B: Store>(
     output: &mut K,
     store: B,
 ) -> Outcome<B>
-    requires least { 8 ≤ frames }
-    requires most { frames ≤ 256 }
+    requires least { LEAST_PAGE_FRAMES ≤ frames }
+    requires most { frames ≤ MOST_PAGE_FRAMES }
     ensures ends { Ends Command.Serial (stream I.left I.faults input.old input.new) (stream K.took K.faults output.old output.new) (given_by result) }
     ensures store { StoreEnds B.faults store (stream I.left I.faults input.old input.new) (stream K.took K.faults output.old output.new) result }
 {

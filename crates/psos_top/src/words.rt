@@ -1,9 +1,11 @@
 // The words of the command line.
 ghost use Rattle.std.specs.Prelude.{◌≡◌, ◌≤◌, map, string_bytes, option_map, IfSome};
+ghost use Rattle.psos_limits.specs.declared.TheConstants.{MOST_PAGE_FRAMES, LEAST_PAGE_FRAMES};
 ghost use Rattle.psos_text.specs.Number.{number_of};
 ghost use Rattle.psos_top.specs.Words.{command_of, with_seed, frames_in, seed_in, with_option, options_in, words_asked};
 
 use crate::Command;
+use psos_limits::{LEAST_PAGE_FRAMES, MOST_PAGE_FRAMES};
 use psos_text::read_number;
 
 /// The options that are given so far.
@@ -46,10 +48,11 @@ fn number_in(word: &str) -> Option<u64>
 // A number of frames that stands for the first time.
 fn frames_in(given: Option<u16>, number: Option<u64>) -> Option<u16>
     ensures number { result ≡ frames_in given number }
-    ensures range { IfSome result (λ n. (8 ≤ n) × (n ≤ 256)) }
+    ensures range { IfSome result (λ n. (LEAST_PAGE_FRAMES ≤ n) × (n ≤ MOST_PAGE_FRAMES)) }
 {
     match (given, number) {
-        (None, Some(n)) if 8 <= n && n <= 256 => Some(n as u16),
+        (None, Some(n)) if u64::from(LEAST_PAGE_FRAMES) <= n && n <= u64::from(MOST_PAGE_FRAMES) =>
+            Some(n as u16),
         _ => None,
     }
 }
@@ -71,9 +74,9 @@ fn with_option(
     option: &str,
     number: Option<u64>,
 ) -> Option<Options>
-    requires { IfSome given.frames (λ n. (8 ≤ n) × (n ≤ 256)) }
+    requires { IfSome given.frames (λ n. (LEAST_PAGE_FRAMES ≤ n) × (n ≤ MOST_PAGE_FRAMES)) }
     ensures options { result ≡ with_option command given option.now number }
-    ensures range { IfSome result (λ o. IfSome o.frames (λ n. (8 ≤ n) × (n ≤ 256))) }
+    ensures range { IfSome result (λ o. IfSome o.frames (λ n. (LEAST_PAGE_FRAMES ≤ n) × (n ≤ MOST_PAGE_FRAMES))) }
 {
     if option == "--frames" {
         return match frames_in(given.frames, number) {
@@ -98,9 +101,9 @@ fn with_option(
 
 // Pairs of an option and a number, each option once at most.
 fn options_in(command: Command, words: &[String], given: Options) -> Option<Options>
-    requires { IfSome given.frames (λ n. (8 ≤ n) × (n ≤ 256)) }
+    requires { IfSome given.frames (λ n. (LEAST_PAGE_FRAMES ≤ n) × (n ≤ MOST_PAGE_FRAMES)) }
     ensures options { result ≡ options_in command (map string_bytes words.now) given }
-    ensures range { IfSome result (λ o. IfSome o.frames (λ n. (8 ≤ n) × (n ≤ 256))) }
+    ensures range { IfSome result (λ o. IfSome o.frames (λ n. (LEAST_PAGE_FRAMES ≤ n) × (n ≤ MOST_PAGE_FRAMES))) }
 {
     let Some((option, others)) = words.split_first() else {
         return Some(given);
@@ -128,7 +131,7 @@ fn with_seed(command: Command, seed: Option<u64>) -> Command
 /// What the words ask for, exactly where they have the shape (docs/program.md, "Options"). It takes no memory.
 pub(crate) fn read_words(words: &[String]) -> Option<Asked>
     ensures shape { result ≡ words_asked (map string_bytes words.now) }
-    ensures range { IfSome result (λ asked. (8 ≤ asked.frames) × (asked.frames ≤ 256)) }
+    ensures range { IfSome result (λ asked. (LEAST_PAGE_FRAMES ≤ asked.frames) × (asked.frames ≤ MOST_PAGE_FRAMES)) }
 {
     let Some((word, others)) = words.split_first() else {
         return None;

@@ -1,5 +1,6 @@
 use Rattle.std.proofs.Common.{◌≡◌, ◌<◌, ◌≤◌, ◌∙◌, ap, sym, length, arith, slice_set, Some}
 use Rattle.std.specs.Prelude.{is_some}
+use Rattle.psos_limits.specs.declared.TheConstants.{MOST_WORDS}
 use Rattle.psos_store.specs.Slots.{least_free}
 use Rattle.psos_words.specs.Words.{zeros}
 use Rattle.psos_calls.specs.Levels.Level7.{first_free}
@@ -43,9 +44,9 @@ returns-then-slot-len-clause-slots g c =
     let all : length t ≡ length c.args.self.now.slots = sym (length-slots t w) ∙ ap (λ v. length v.slots) c.self.view_is in
     let once : least_free t < length w = omega (arith, c.in-Some.ensures.least, c.len.ensures, c.if-slot-len.true, c.self.inside.words.ok.0) in
     rw (c.in-Some.ensures.taken, c.in-Some.ensures.least, c.clear.ensures) (
-    slots-take t w (least_free t) (zeros 512) (omega (arith, c.requires, free, all)) once
-    ∙ ap (λ n. slice_set (slots_of t w) n (Some (zeros 512))) (sym (first_free-slots t w))
-    ∙ ap (λ v. slice_set v.slots (first_free v.slots) (Some (zeros 512))) c.self.view_is)
+    slots-take t w (least_free t) (zeros MOST_WORDS) (omega (arith, c.requires, free, all)) once
+    ∙ ap (λ n. slice_set (slots_of t w) n (Some (zeros MOST_WORDS))) (sym (first_free-slots t w))
+    ∙ ap (λ v. slice_set v.slots (first_free v.slots) (Some (zeros MOST_WORDS))) c.self.view_is)
 
 pub returns-else-slot-len-clause-slot : goal.returns-else-slot-len-clause-slot
 returns-else-slot-len-clause-slot g c = c.in-Some.ensures.least ∙ (sym (first_free-slots c.self.inside.taken c.self.inside.words.items) ∙ ap (λ v. first_free v.slots) c.self.view_is)
@@ -58,6 +59,6 @@ returns-else-slot-len-clause-slots g c =
     let all : length t ≡ length c.args.self.now.slots = sym (length-slots t w) ∙ ap (λ v. length v.slots) c.self.view_is in
     let past : length w ≤ least_free t = omega (arith, c.in-Some.ensures.least, c.len.ensures, c.if-slot-len.false, c.self.inside.words.ok.0) in
     rw (c.in-Some.ensures.taken, c.push_reserved.ensures.items, c.zero_words.ensures) (
-    slots-push t w (least_free t) (zeros 512) (omega (arith, c.requires, free, all)) (free-next t w c.self.invariant.1 past)
-    ∙ ap (λ n. slice_set (slots_of t w) n (Some (zeros 512))) (sym (first_free-slots t w))
-    ∙ ap (λ v. slice_set v.slots (first_free v.slots) (Some (zeros 512))) c.self.view_is)
+    slots-push t w (least_free t) (zeros MOST_WORDS) (omega (arith, c.requires, free, all)) (free-next t w c.self.invariant.1 past)
+    ∙ ap (λ n. slice_set (slots_of t w) n (Some (zeros MOST_WORDS))) (sym (first_free-slots t w))
+    ∙ ap (λ v. slice_set v.slots (first_free v.slots) (Some (zeros MOST_WORDS))) c.self.view_is)

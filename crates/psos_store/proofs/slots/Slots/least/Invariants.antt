@@ -1,4 +1,5 @@
 use Rattle.std.proofs.Common.{◌-◌, ◌≤◌}
+use Rattle.psos_limits.specs.declared.TheConstants.{SLOTS}
 use Rattle.psos_store.specs.Slots.{least_free}
 use Rattle.psos_store.proofs.slots.Slots.least.Given as goal
 
@@ -7,4 +8,4 @@ abbrev pub invariant-taken : goal.invariant-taken
 invariant-taken l = l.slot ≤ least_free l.self-inside.taken
 
 abbrev pub decreases-taken : goal.decreases-taken
-decreases-taken l = 521 - l.slot
+decreases-taken l = SLOTS - l.slot
