@@ -29,10 +29,10 @@ use Rattle.psos_core.specs.declared.ongoing.Ongoing.{Ongoing}
 use Rattle.psos_core.specs.System.{levels_of}
 use Rattle.psos_core.specs.declared.upcoming.Upcoming.{Upcoming}
 use Rattle.psos_core.specs.declared.upcoming.Upcoming.TheVariants as upcoming
-use Rattle.psos_core.specs.Plans.{state_in, next_after, next_for, CanPlan, IsLeveled, closes, Tells, known_of, is_known, AreKnown, IsKept}
+use Rattle.psos_core.specs.Plans.{state_in, next_after, next_for, CanPlan, IsLeveled, closes, Tells, known_of, is_known, AreKnown, IsPlanned}
 use Rattle.psos_core.specs.Events.{MayStep, HasStepped, HasStopped}
-use Rattle.psos_core.proofs.EventStep.{leveled, in_place, tells_close, kept_on, known_on, next_same}
-use Rattle.psos_core.proofs.EventRun.{kept_next, plans_then, step_take, step_call, step_close}
+use Rattle.psos_core.proofs.EventStep.{leveled, in_place, tells_close, planned_on, known_on, next_same}
+use Rattle.psos_core.proofs.EventRun.{planned_next, plans_then, step_take, step_call, step_close}
 
 -- the lock that was looked at is the call's
 pub lock_is : (s : Script) (call : LevelCall) (users : List UserScript) (lock : LockId) → users ≡ s.users → lock ≡ lock_of (length users) call → lock ≡ lock_of (length s.users) call
@@ -101,33 +101,33 @@ closed_is {B} s l m o p entries more u x reply effect trace steps n k levels use
     ∙ ap (λ (es : List Entry). S (levels_of l) U (set o.held u []) (set o.traces.items u []) es) all)))
 
 module _ (s : Script) (c : CoreState) (o : Ongoing) (u : ℕ) (may : MayStep s c o u) where
-  kept : IsKept s c o.nexts.items o.phase
-  kept = may.kept
+  planned : IsPlanned s c o.nexts.items o.phase
+  planned = may.planned
 
   pub below : u < length c.users
-  below = subst (λ (n : ℕ). u < n) (sym kept.users) may.goes.user
+  below = subst (λ (n : ℕ). u < n) (sym planned.users) may.goes.user
 
   pub holds : u < length c.held
-  holds = subst (λ (n : ℕ). u < n) (sym kept.held) may.goes.user
+  holds = subst (λ (n : ℕ). u < n) (sym planned.held) may.goes.user
 
   pub traced : u < length c.traces
-  traced = subst (λ (n : ℕ). u < n) (sym kept.traces) may.goes.user
+  traced = subst (λ (n : ℕ). u < n) (sym planned.traces) may.goes.user
 
   -- it has a place among what plans do next
   pub placed : u < length o.nexts.items
-  placed = subst (λ (n : ℕ). u < n) (sym kept.all) may.goes.user
+  placed = subst (λ (n : ℕ). u < n) (sym planned.all) may.goes.user
 
   -- what is kept goes with the state
-  goes_with : (e d : CoreState) (p : Ongoing) (all : List Upcoming) (phase : Option ℕ) → d ≡ e → p.nexts.items ≡ all → p.phase ≡ phase → IsKept s e all phase → IsKept s d p.nexts.items p.phase
+  goes_with : (e d : CoreState) (p : Ongoing) (all : List Upcoming) (phase : Option ℕ) → d ≡ e → p.nexts.items ≡ all → p.phase ≡ phase → IsPlanned s e all phase → IsPlanned s d p.nexts.items p.phase
   goes_with e d p all phase same nexts now h =
-      let P : CoreState → Type 0 = λ z. IsKept s z p.nexts.items p.phase in
-      let N : List Upcoming → Type 0 = λ ns. IsKept s e ns p.phase in
-      let F : Option ℕ → Type 0 = λ q. IsKept s e all q in
+      let P : CoreState → Type 0 = λ z. IsPlanned s z p.nexts.items p.phase in
+      let N : List Upcoming → Type 0 = λ ns. IsPlanned s e ns p.phase in
+      let F : Option ℕ → Type 0 = λ q. IsPlanned s e all q in
       subst P (sym same) (subst N (sym nexts) (subst F (sym now) h))
 
   -- nothing has changed
   pub stayed : (d : CoreState) (p : Ongoing) → d ≡ c → p.nexts.items ≡ o.nexts.items → p.phase ≡ o.phase → HasStopped s c u d p
-  stayed d p same nexts now = record { state = inl same; kept = goes_with c d p o.nexts.items o.phase same nexts now kept }
+  stayed d p same nexts now = record { state = inl same; planned = goes_with c d p o.nexts.items o.phase same nexts now planned }
 
   -- a lock was taken
   module _ (level : Level) (call : LevelCall) (asked : next_for s c u ≡ Some (nexts.Call level call)) where
@@ -137,13 +137,13 @@ module _ (s : Script) (c : CoreState) (o : Ongoing) (u : ℕ) (may : MayStep s c
     pub took : is_held (locks_of c u) (lock_of (length s.users) call) ≡ false → (d : CoreState) (p : Ongoing) → d ≡ lock_taken → p.nexts.items ≡ o.nexts.items → p.phase ≡ o.phase → HasStepped s c u d p
     took free d p same nexts now = record {
       state = same ∙ sym (step_take s c o u may level call asked free);
-      kept = goes_with lock_taken d p o.nexts.items o.phase same nexts now (record {
-        users = kept.users;
-        held = length-set c.held u (lock_of (length s.users) call ∷ locks_of c u) ∙ kept.held;
-        traces = kept.traces;
-        all = kept.all;
-        each = kept.each;
-        now = kept.now;
+      planned = goes_with lock_taken d p o.nexts.items o.phase same nexts now (record {
+        users = planned.users;
+        held = length-set c.held u (lock_of (length s.users) call ∷ locks_of c u) ∙ planned.held;
+        traces = planned.traces;
+        all = planned.all;
+        each = planned.each;
+        now = planned.now;
       });
       known = subst AreKnown (sym nexts) may.known;
     }
@@ -172,13 +172,13 @@ module _ (s : Script) (c : CoreState) (o : Ongoing) (u : ℕ) (may : MayStep s c
       made_next = ap (λ (e : CoreState). next_for s e u) (step_call s c o u may level call asked mine) ∙ next_then
 
       module _ (d : CoreState) (p : Ongoing) (then : Upcoming) (same : d ≡ call_made) (told : Tells then (next_after s x trace)) (written : p.nexts.items ≡ set o.nexts.items u then) (now : p.phase ≡ o.phase) where
-        made_kept : IsKept s d p.nexts.items p.phase
-        made_kept =
+        made_planned : IsPlanned s d p.nexts.items p.phase
+        made_planned =
             goes_with call_made d p (set o.nexts.items u then) o.phase same written now
-            (kept_on s c call_made o.nexts.items o.phase u then kept.all (λ v apart. kept.each v) kept.users kept.held
-            (length-set c.traces u (trace_of c u ++ step_of c.levels call ∷ []) ∙ kept.traces) placed
+            (planned_on s c call_made o.nexts.items o.phase u then planned.all (λ v apart. planned.each v) planned.users planned.held
+            (length-set c.traces u (trace_of c u ++ step_of c.levels call ∷ []) ∙ planned.traces) placed
             (λ v apart. next_same s c call_made v refl (get_or-set_other c.traces u v (trace_of c u ++ step_of c.levels call ∷ []) [] apart))
-            (subst (Tells then) (sym next_then) told) kept.now)
+            (subst (Tells then) (sym next_then) told) planned.now)
 
         made_state : d ≡ core_step s c u
         made_state = same ∙ sym (step_call s c o u may level call asked mine)
@@ -186,18 +186,18 @@ module _ (s : Script) (c : CoreState) (o : Ongoing) (u : ℕ) (may : MayStep s c
         pub made : IsTrue (is_known then) → HasStepped s c u d p
         made known = record {
           state = made_state;
-          kept = made_kept;
+          planned = made_planned;
           known = subst AreKnown (sym written) (known_on o.nexts.items u then placed (λ v apart. may.known v) known);
         }
 
         pub made_stopped : HasStopped s c u d p
-        made_stopped = record { state = inr made_state; kept = made_kept }
+        made_stopped = record { state = inr made_state; planned = made_planned }
 
   -- what was kept says that the plan closes
   pub closing : (r q : Upcoming) (next : Next) (reply : Reply) (effect : Effect) → r ≡ get_or o.nexts.items u r → q ≡ r → q ≡ upcoming.Known next → next ≡ nexts.Close reply effect
       → next_for s c u ≡ Some (nexts.Close reply effect)
   closing r q next reply effect read same is close =
-      sym (kept_next s c o u may)
+      sym (planned_next s c o u may)
       ∙ (ap known_of (sym (in_place o.nexts.items u r upcoming.Nothing placed read) ∙ (sym same ∙ is)) ∙ ap (λ (n : Next). Some n) close)
 
   -- the request was closed
@@ -206,9 +206,9 @@ module _ (s : Script) (c : CoreState) (o : Ongoing) (u : ℕ) (may : MayStep s c
     pub waits : (d : CoreState) (p : Ongoing) → d ≡ c → p.nexts.items ≡ set o.nexts.items u upcoming.Close → p.phase ≡ o.phase → HasStopped s c u d p
     waits d p same nexts now = record {
       state = inl same;
-      kept = goes_with c d p (set o.nexts.items u upcoming.Close) o.phase same nexts now
-          (kept_on s c c o.nexts.items o.phase u upcoming.Close kept.all (λ v apart. kept.each v) kept.users kept.held kept.traces placed (λ v apart. refl)
-          (tells_close (next_for s c u) (ap closes asked)) kept.now);
+      planned = goes_with c d p (set o.nexts.items u upcoming.Close) o.phase same nexts now
+          (planned_on s c c o.nexts.items o.phase u upcoming.Close planned.all (λ v apart. planned.each v) planned.users planned.held planned.traces placed (λ v apart. refl)
+          (tells_close (next_for s c u) (ap closes asked)) planned.now);
     }
 
     module _ (x : User) (here : slice_get c.users u ≡ Some x) where
@@ -237,10 +237,10 @@ module _ (s : Script) (c : CoreState) (o : Ongoing) (u : ℕ) (may : MayStep s c
           ∙ ap (λ (t : List Step). next_after s (after s x effect) t) trace_then in
           record {
             state = same ∙ sym (step_close s c o u may reply effect asked x here);
-            kept = goes_with request_closed d p (set gone u then) (current_phase s request_closed.users) same nexts now
-                (kept_on s c request_closed gone (current_phase s request_closed.users) u then (length-set o.nexts.items u upcoming.Close ∙ kept.all)
-                (λ v apart. subst (λ (up : Upcoming). Tells up (next_for s c v)) (sym (get_or-set_other o.nexts.items u v upcoming.Close upcoming.Nothing apart)) (kept.each v))
-                (length-set c.users u (after s x effect) ∙ kept.users) (length-set c.held u [] ∙ kept.held) (length-set c.traces u [] ∙ kept.traces) still
+            planned = goes_with request_closed d p (set gone u then) (current_phase s request_closed.users) same nexts now
+                (planned_on s c request_closed gone (current_phase s request_closed.users) u then (length-set o.nexts.items u upcoming.Close ∙ planned.all)
+                (λ v apart. subst (λ (up : Upcoming). Tells up (next_for s c v)) (sym (get_or-set_other o.nexts.items u v upcoming.Close upcoming.Nothing apart)) (planned.each v))
+                (length-set c.users u (after s x effect) ∙ planned.users) (length-set c.held u [] ∙ planned.held) (length-set c.traces u [] ∙ planned.traces) still
                 (λ v apart. next_same s c request_closed v (set_apart c.users u v (after s x effect) apart) (get_or-set_other c.traces u v [] [] apart))
                 (subst (Tells then) (sym next) told) refl);
             known = subst AreKnown (sym nexts) (known_on gone u then still

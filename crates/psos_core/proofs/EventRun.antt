@@ -29,7 +29,8 @@ use Rattle.psos_events.proofs.ReplayInvariant.{HasDone, has_done, stands_now, ev
 use Rattle.psos_core.specs.declared.ongoing.Ongoing.{Ongoing}
 use Rattle.psos_core.specs.Plans.{next_for, CanPlan, may_go, known_of}
 use Rattle.psos_core.specs.declared.upcoming.Upcoming.TheVariants as upcoming
-use Rattle.psos_core.specs.Events.{IsUnderWay, MayStep}
+use Rattle.psos_core.specs.EventStates.{IsUnderWay}
+use Rattle.psos_core.specs.Events.{MayStep}
 use Rattle.psos_model.proofs.Orders.{order_length}
 use Rattle.psos_core.proofs.EventStep.{event, event_is, enabled_is, told_is}
 
@@ -70,8 +71,8 @@ module _ (s : Script) (c : CoreState) (o : Ongoing) (u : ℕ) (may : MayStep s c
   n = length s.users
 
   -- what is kept of its plan is what it does next
-  pub kept_next : known_of (slice_index_or o.nexts.items u upcoming.Nothing) ≡ next_for s c u
-  kept_next = told_is (slice_index_or o.nexts.items u upcoming.Nothing) (next_for s c u) (may.kept.each u) (may.known u)
+  pub planned_next : known_of (slice_index_or o.nexts.items u upcoming.Nothing) ≡ next_for s c u
+  planned_next = told_is (slice_index_or o.nexts.items u upcoming.Nothing) (next_for s c u) (may.planned.each u) (may.known u)
 
   pub left : has_left s c.users u ≡ true
   left = (and_parts (has_left s c.users u) (may_go n c.held u (next_for s c u)) (sym (enabled_is s c u) ∙ may.goes.enabled)).0

@@ -1,6 +1,7 @@
 -- A user's event, by what its plan does next. States docs/levels.md, "Locks".
-use Rattle.std.proofs.Common.{◌≡◌, ℕ, ◌<◌, ◌&&◌, ◌||◌, Bool, true, false, cond, List, length, get_or, set, Option, Some, None, refl, sym, ap, ◌∙◌, subst}
+use Rattle.std.proofs.Common.{◌≡◌, ℕ, ◌<◌, ◌&&◌, ◌||◌, not, Bool, true, false, cond, List, length, get_or, set, Option, Some, None, refl, sym, ap, ◌∙◌, subst}
 use Rattle.std.specs.Prelude.{IsTrue, Result, Ok, Err, OnOk, OnErr, IfErr, IsErrAnd, slice_get, slice_index_or, option_map}
+use Rattle.std.specs.List.{list_all}
 use Rattle.std.specs.Option.{option_and_then}
 use Rattle.std.proofs.lemmas.Bool.{true≢false}
 use Rattle.std.proofs.lemmas.List.{length-set}
@@ -25,11 +26,13 @@ use Rattle.psos_calls.specs.Language.Tests.{if_there}
 use Rattle.psos_model.specs.Run.{is_open, is_now, phase_of, is_left, has_left, current_phase}
 use Rattle.psos_model.specs.Events.{CoreState, Event, locks_of, trace_of, plan_left, event_for, event_of, may_happen, is_enabled}
 use Rattle.psos_model.specs.Events as events
+use Rattle.psos_model.proofs.RequestsLeft.{fails}
 use Rattle.psos_events.proofs.LockHolders.{by_set}
 use Rattle.psos_events.proofs.ReplayInvariant.{set_at}
 use Rattle.psos_core.specs.declared.upcoming.Upcoming.{Upcoming}
 use Rattle.psos_core.specs.declared.upcoming.Upcoming.TheVariants as upcoming
-use Rattle.psos_core.specs.Plans.{next_after, next_for, IsLeveled, call_in, closes, may_go, Tells, known_of, is_known, AreKnown, IsKept}
+use Rattle.psos_core.proofs.UserSlots.{found_there}
+use Rattle.psos_core.specs.Plans.{next_after, next_for, IsLeveled, call_in, closes, may_go, Tells, known_of, is_known, AreKnown, IsPlanned}
 
 -- ---- the event is the one that the plan tells
 
@@ -138,11 +141,11 @@ close_goes users held u (Some (nexts.Call level call)) h = absurd (true≢false 
 close_goes users held u (Some (nexts.Close reply effect)) h = refl
 
 -- user u's plan has gone on, and the others' are as they were
-pub kept_on : (s : Script) (c d : CoreState) (nexts : List Upcoming) (phase : Option ℕ) (u : ℕ) (then : Upcoming)
+pub planned_on : (s : Script) (c d : CoreState) (nexts : List Upcoming) (phase : Option ℕ) (u : ℕ) (then : Upcoming)
     → length nexts ≡ length s.users → ((v : ℕ) → (v ≡ u → ⊥) → Tells (slice_index_or nexts v upcoming.Nothing) (next_for s c v))
     → length d.users ≡ length s.users → length d.held ≡ length s.users → length d.traces ≡ length s.users → u < length nexts
-    → ((v : ℕ) → (v ≡ u → ⊥) → next_for s d v ≡ next_for s c v) → Tells then (next_for s d u) → phase ≡ current_phase s d.users → IsKept s d (set nexts u then) phase
-kept_on s c d nexts phase u then all others users held traces below apart mine now = record {
+    → ((v : ℕ) → (v ≡ u → ⊥) → next_for s d v ≡ next_for s c v) → Tells then (next_for s d u) → phase ≡ current_phase s d.users → IsPlanned s d (set nexts u then) phase
+planned_on s c d nexts phase u then all others users held traces below apart mine now = record {
   users = users;
   held = held;
   traces = traces;
@@ -171,6 +174,21 @@ pub left_is : (s : Script) (c : CoreState) (u : ℕ) (x : User) (phase : Option 
 left_is s c u x phase b here now is =
     ap (λ (o : Option User). if_there o false (λ (z : User). is_left s c.users z)) here
     ∙ (ap (λ (o : Option ℕ). is_open x.frames || is_now (phase_of s x) o) (sym now) ∙ sym is)
+
+-- and whether its event is enabled, by what is found in its place
+pub enabled_by : (s : Script) (c : CoreState) (u : ℕ) (slots : List User) (x : User) (phase : Option ℕ) (b : Bool) → slots ≡ c.users → x ≡ get_or slots u x → u < length c.users
+    → phase ≡ current_phase s c.users → b ≡ (is_open x.frames || is_now (phase_of s x) phase) → (d : Bool) → b ≡ d → is_enabled s c u ≡ (d && may_go (length s.users) c.held u (next_for s c u))
+enabled_by s c u slots x phase b same found below now is d test =
+    let left = left_is s c u x phase b (found_there slots c.users u x same found below) now is in
+    enabled_is s c u ∙ ap (λ (e : Bool). e && may_go (length s.users) c.held u (next_for s c u)) (left ∙ test)
+
+-- nobody has
+pub none_is : (s : Script) (users slots : List User) (phase : Option ℕ) (b : Bool) → slots ≡ users → phase ≡ current_phase s users
+    → b ≡ list_all (λ (x : User). not (is_open x.frames || is_now (phase_of s x) phase)) slots → b ≡ list_all (fails (is_left s users)) users
+none_is s users slots phase b same now is =
+    is
+    ∙ (ap (λ (o : Option ℕ). list_all (λ (x : User). not (is_open x.frames || is_now (phase_of s x) o)) slots) now
+    ∙ ap (list_all (fails (is_left s users))) same)
 
 -- ---- what follows where a call went well, and where not
 

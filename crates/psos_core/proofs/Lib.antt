@@ -13,3 +13,5 @@ pub mod EventRun
 pub mod TurnsRun
 pub mod EventStart
 pub mod EventParts
+pub mod CallFacts
+pub mod CloseFacts

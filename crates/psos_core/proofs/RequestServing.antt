@@ -1,5 +1,5 @@
 -- A request that is served by its plan, put back among the users' own parts.
-use Rattle.std.proofs.Common.{◌≡◌, ℕ, ◌<◌, ◌≤◌, List, length, get_or, set, sym, ap, ◌∙◌, subst, arith}
+use Rattle.std.proofs.Common.{◌≡◌, ℕ, ◌<◌, ◌≤◌, List, [], ◌∷◌, ◌++◌, length, get_or, set, sym, ap, ◌∙◌, subst, arith}
 use Rattle.std.specs.Prelude.{slice_get, Some}
 use Rattle.std.specs.List.{refill}
 use Rattle.std.proofs.lemmas.List.{take_at, length-set}
@@ -92,11 +92,11 @@ module _ (s : Script) (y : System) (u : ℕ) (request : Request) (asks : Asks s 
   refill_all : (n : ℕ) (xs ws : List User) → length ws ≡ n → refill n xs ws ≡ ws
   refill_all n xs ws e = take_at ws _ n e
 
-  pub served : (me found left : User) (users slots : List User) (after-levels : Levels) (calls : List (Level × LevelCall)) (reply : Reply) (effect : Effect) (n m : ℕ)
+  pub served : (me found left : User) (users slots : List User) (before entries : List Entry) (after-levels : Levels) (calls : List (Level × LevelCall)) (reply : Reply) (effect : Effect) (n m : ℕ)
       → me ≡ asks.user → found ≡ asks.user → users ≡ y.users → slots ≡ users → IsPlanRun (run_plan (plan_of me request) y.levels) after-levels calls reply effect
-      → left ≡ after s found effect → (n, m) ≡ place_of asks.user
-      → IsServed s y u (record { levels = after-levels; users = refill (length users) users (set slots u left) }) (record { user = u; n = n; m = m; steps = calls; reply = reply })
-  served me found left users slots after-levels calls reply effect n m me-is found-is users-are same ran settles placed =
+      → left ≡ after s found effect → (n, m) ≡ place_of asks.user → entries ≡ before ++ record { user = u; n = n; m = m; steps = calls; reply = reply } ∷ []
+      → IsServed s y before u (record { levels = after-levels; users = refill (length users) users (set slots u left) }) entries
+  served me found left users slots before entries after-levels calls reply effect n m me-is found-is users-are same ran settles placed pushed =
       let x = asks.user in
       let P : User → Type 0 = λ z. IsPlanRun (run_plan (plan_of z request) y.levels) after-levels calls reply effect in
       let plan = subst P me-is ran in
@@ -111,6 +111,6 @@ module _ (s : Script) (y : System) (u : ℕ) (request : Request) (asks : Asks s 
       record {
         system-is = ap (λ (xs : List User). S after-levels xs) parts ∙ ap (λ (l : Levels). S l (set y.users u (after s x p.effect))) plan.levels-are
             ∙ sym (ap (λ (r : System × Entry). r.0) step);
-        entry-is = ap (λ (k : ℕ × ℕ). G k calls reply) placed ∙ ap (λ (c : List (Level × LevelCall)). G (place_of x) c reply) plan.calls-are
-            ∙ ap (λ (r : Reply). G (place_of x) p.calls r) plan.reply-is ∙ sym (ap (λ (r : System × Entry). r.1) step);
+        entries-are = pushed ∙ ap (λ (e : Entry). before ++ e ∷ []) (ap (λ (k : ℕ × ℕ). G k calls reply) placed ∙ ap (λ (c : List (Level × LevelCall)). G (place_of x) c reply) plan.calls-are
+            ∙ ap (λ (r : Reply). G (place_of x) p.calls r) plan.reply-is ∙ sym (ap (λ (r : System × Entry). r.1) step));
       }

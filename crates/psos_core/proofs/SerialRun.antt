@@ -1,5 +1,5 @@
 -- A serial run on its way: from a start, request by request, to the end.
-use Rattle.std.proofs.Common.{◌≡◌, ℕ, ◌+◌, ◌*◌, ◌^◌, ◌≤◌, List, [], ◌∷◌, ◌++◌, length, map, Some, None, refl, sym, ap, ◌∙◌, subst, arith}
+use Rattle.std.proofs.Common.{◌≡◌, ℕ, ◌+◌, ◌-◌, ◌*◌, ◌^◌, ◌<◌, ◌≤◌, List, [], ◌∷◌, ◌++◌, length, map, get_or, Option, Some, None, refl, sym, ap, ◌∙◌, subst, arith}
 use Rattle.std.specs.Prelude.{slice_get}
 use Rattle.std.proofs.lemmas.List.{length-append}
 use Rattle.std.proofs.lemmas.Option.{same_Some}
@@ -11,6 +11,7 @@ use Rattle.psos_model.specs.Flat.{Flat}
 use Rattle.psos_model.specs.Answer.{answer}
 use Rattle.psos_model.specs.Flat.Boot.{boot}
 use Rattle.psos_model.specs.Run.{has_left, phase_of, run_from, IsLegalFrom}
+use Rattle.psos_model.specs.Events.{CoreState}
 use Rattle.psos_model.specs.Replay.{System, boot_system, replay_step, replay_from, entries_from, order_of, answered_of}
 use Rattle.psos_model.specs.Text.Output.{calls_of}
 use Rattle.psos_model.specs.Sound.{IsSound}
@@ -25,7 +26,9 @@ use Rattle.psos_laws.proofs.OrderLengths.{orders_end}
 use Rattle.psos_laws.proofs.AnswerProgress.{AreGoing, turn, turn_going, start_going}
 use Rattle.psos_core.specs.UnderWay.{phases_most, asked_before, due, IsPast, IsAt, HasServed}
 use Rattle.psos_model.specs.Events.Serial.{IsCoreStart}
-use Rattle.psos_core.specs.Serving.{Asks, IsServed, IsFrontFrom, IsRunFrom, IsWholeRun}
+use Rattle.psos_core.specs.Serving.{Asks, IsServed, IsFrontFrom, AreSettledFrom, IsRunFrom, IsWholeRun}
+use Rattle.psos_core.specs.EventStates.{IsOver}
+use Rattle.psos_core.proofs.UserSlots.{found_there}
 use Rattle.psos_core.proofs.ReplayStep.{step_is}
 use Rattle.psos_model.proofs.Orders.{run_append, serial_more, serial_legal, order_more, order_length, replay_more, entries_more}
 use Rattle.psos_events.proofs.Replays.{runs_stand}
@@ -44,6 +47,11 @@ going_after s y f order start legal = by_order order f (start_going s f start.st
 next_after : (s : Script) (order : List ℕ) (f : Flat) → (run_from s f order).next ≤ f.next + 2 * length order
 next_after s [] f = omega arith
 next_after s (u ∷ us) f = omega (arith, next_after s us (answer s f u).0, at_most_two s f u)
+
+-- what is found in user u's place, and what it asks next in the phases up to p
+pub record Finds (s : Script) (now : System) (p u : ℕ) (x : User) (asked : Option Request) : Type 0 where
+  pub there : slice_get now.users u ≡ Some x
+  pub is : due s x (asked_before (user_script s u).phases (p + 1)) ≡ asked
 
 -- what holds wherever a serial run has come
 module _ (s : Script) (y : System) (f : Flat) (start : IsCoreStart s y f) (now : System) (entries : List Entry) (p u : ℕ) (h : HasServed s y f now entries p u) where
@@ -80,8 +88,21 @@ module _ (s : Script) (y : System) (f : Flat) (start : IsCoreStart s y f) (now :
   place : IsAt s flat.users p u
   place = subst (λ (xs : List User). IsAt s xs p u) stands.users h.place
 
+  pub finds : (slots : List User) (x : User) (count : ℕ) (told asked : Option Request) → slots ≡ now.users → x ≡ get_or slots u x → u < length s.users
+      → count ≡ asked_before (user_script s u).phases (p + 1) → told ≡ due s x count → told ≡ asked → Finds s now p u x asked
+  finds slots x count told asked same is below all does what = record {
+    there = found_there slots now.users u x same is (omega (arith, all_users, below));
+    is = ap (due s x) (sym all) ∙ (sym does ∙ what);
+  }
+
   -- ---- a request that is due
-  module _ (x : User) (request : Request) (there : slice_get now.users u ≡ Some x) (is : due s x (asked_before (user_script s u).phases (p + 1)) ≡ Some request) where
+  module _ (x : User) (request : Request) (found : Finds s now p u x (Some request)) where
+    there : slice_get now.users u ≡ Some x
+    there = found.there
+
+    is : due s x (asked_before (user_script s u).phases (p + 1)) ≡ Some request
+    is = found.is
+
     here : slice_get flat.users u ≡ Some x
     here = ap (λ (xs : List User). slice_get xs u) (sym stands.users) ∙ there
 
@@ -115,11 +136,14 @@ module _ (s : Script) (y : System) (f : Flat) (start : IsCoreStart s y f) (now :
         }
 
     -- and then the run has come one request further
-    module _ (new : System) (entry : Entry) (served : IsServed s now u new entry) where
+    module _ (new : System) (after : List Entry) (served : IsServed s now entries u new after) where
+      abbrev entry : Entry
+      entry = (replay_step s now u).1
+
       order-is : order_of (entries ++ entry ∷ []) ≡ order ++ u ∷ []
       order-is =
           let step = step_is s now u x request there (due_some s x count request is).next in
-          order_more entries entry ∙ ap (λ (e : Entry). order ++ e.user ∷ []) served.entry-is ∙ ap (λ (r : System × Entry). order ++ r.1.user ∷ []) step
+          order_more entries entry ∙ ap (λ (r : System × Entry). order ++ r.1.user ∷ []) step
 
       serial-is : IsSerialFrom s f (order_of (entries ++ entry ∷ []))
       serial-is = subst (IsSerialFrom s f) (sym order-is) (serial_more s f order u h.serial first)
@@ -142,27 +166,29 @@ module _ (s : Script) (y : System) (f : Flat) (start : IsCoreStart s y f) (now :
           subst (λ (xs : List User). IsAt s xs p u) (sym t.users ∙ same)
           (at_more s flat.users p u t.x t.y t.there place (goes_within s p u t.x t.y (going.each u t.x t.there).number t.on mine))
 
-      pub one_more : HasServed s y f new (entries ++ entry ∷ []) p u
-      one_more = record {
+      pub one_more : HasServed s y f new after p u
+      one_more = subst (λ (es : List Entry). HasServed s y f new es p u) (sym served.entries-are) (record {
         replayed = replayed-is;
-        recorded = ap (λ (e : Entry). entries ++ e ∷ []) served.entry-is ∙ ap (λ (z : System). entries ++ (replay_step s z u).1 ∷ []) h.replayed
+        recorded = ap (λ (z : System). entries ++ (replay_step s z u).1 ∷ []) h.replayed
             ∙ ap (λ (es : List Entry). es ++ (replay_step s (replay_from s y order) u).1 ∷ []) h.recorded
             ∙ sym (entries_more s y order u) ∙ ap (entries_from s y) (sym order-is);
         serial = serial-is;
         place = place-is;
-      }
+      })
 
       -- which it does at most so often
-      pub one_fewer : length entries + 1 ≤ 32768
+      pub one_fewer : 32768 - length after < 32768 - length entries
       one_fewer =
           let legal = serial_legal s f (order_of (entries ++ entry ∷ [])) serial-is in
-          omega (arith, orders_end s f (order_of (entries ++ entry ∷ [])) start.well_formed start.start legal, order_length (entries ++ entry ∷ []), length-append entries (entry ∷ []))
+          omega (arith, orders_end s f (order_of (entries ++ entry ∷ [])) start.well_formed start.start legal, order_length (entries ++ entry ∷ []), length-append entries (entry ∷ []), ap length served.entries-are)
 
   -- ---- the next user, and the next phase
 
   -- nothing is due
-  pub next_user : (x : User) → slice_get now.users u ≡ Some x → due s x (asked_before (user_script s u).phases (p + 1)) ≡ None → HasServed s y f now entries p (u + 1)
-  next_user x there is =
+  pub next_user : (x : User) → Finds s now p u x None → HasServed s y f now entries p (u + 1)
+  next_user x found =
+      let there = found.there in
+      let is = found.is in
       let here : slice_get flat.users u ≡ Some x = ap (λ (xs : List User). slice_get xs u) (sym stands.users) ∙ there in
       let on = going.each u x here in
       let own : length (requests_of (user_script s x.number)) ≡ length (requests_of (user_script s u)) = ap (λ (n : ℕ). length (requests_of (user_script s n))) on.number in
@@ -203,6 +229,23 @@ front_so_far s y f now entries p u start h =
       recorded = h.recorded;
       answered = ap (map answered_of) h.recorded ∙ (runs_stand s y f order start legal).answered;
     }
+
+-- and the users' own parts are settled as in its replay
+pub settled_so_far : (s : Script) (y : System) (f : Flat) (now : System) (entries : List Entry) (p u : ℕ) → HasServed s y f now entries p u → AreSettledFrom s y entries now.users
+settled_so_far s y f now entries p u h = record { users-are = ap (λ (z : System). z.users) h.replayed }
+
+-- where the next request stopped, nothing of it has closed
+pub front_left : (s : Script) (y : System) (f : Flat) (now : System) (entries left : List Entry) (p u : ℕ) → IsCoreStart s y f → HasServed s y f now entries p u → left ≡ entries → IsFrontFrom s y f left
+front_left s y f now entries left p u start h same = subst (IsFrontFrom s y f) (sym same) (front_so_far s y f now entries p u start h)
+
+pub settled_left : (s : Script) (y : System) (f : Flat) (now : System) (entries left : List Entry) (users : List User) (p u : ℕ) → HasServed s y f now entries p u → left ≡ entries → users ≡ now.users
+    → AreSettledFrom s y left users
+settled_left s y f now entries left users p u h same still =
+    record { users-are = still ∙ ((settled_so_far s y f now entries p u h).users-are ∙ ap (λ (es : List Entry). (replay_from s y (order_of es)).users) (sym same)) }
+
+-- nobody has a request left at the end of a whole run
+pub over_at_end : (s : Script) (y : System) (f : Flat) (InOrder : List ℕ → Type 0) (entries : List Entry) (c : CoreState) (left : System) → c.users ≡ left.users → IsRunFrom s y f InOrder entries left → IsOver s c
+over_at_end s y f InOrder entries c left same h = record { nobody = λ u. ap (λ (us : List User). has_left s us u) (same ∙ h.stands.users) ∙ h.over u }
 
 pub at_end : (s : Script) (y : System) (f : Flat) (now : System) (entries : List Entry) (p : ℕ) → IsCoreStart s y f → p ≡ phases_most s.users → HasServed s y f now entries p 0 → IsRunFrom s y f (IsSerialFrom s f) entries now
 at_end s y f now entries p start all h =

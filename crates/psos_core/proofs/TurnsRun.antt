@@ -3,7 +3,8 @@ use Rattle.std.proofs.Common.{◌≡◌, ℕ, zero, suc, ◌+◌, ◌-◌, ◌<�
 use Rattle.std.specs.Prelude.{◌%◌, ◌==◌, ◌&&◌, not, slice_get, IsTrue}
 use Rattle.std.specs.List.{list_all}
 use Rattle.std.proofs.lemmas.Nat.{mod_below}
-use Rattle.std.proofs.lemmas.Bool.{true≢false, eqb-true}
+use Rattle.std.proofs.lemmas.Bool.{true≢false, eqb-true, cases_eq}
+use Rattle.std.proofs.lemmas.Grind.{not_there}
 use Rattle.std.proofs.lemmas.Option.{none-some, same_Some, slice_get_within, slice_get-get_or}
 use Rattle.psos_text.specs.Draws.{first_draw, next_draw}
 use Rattle.psos_calls.specs.Language.Script.{Script}
@@ -23,8 +24,9 @@ use Rattle.psos_events.proofs.EndState.{events_end}
 use Rattle.psos_events.proofs.EventBound.{events_go_on}
 use Rattle.psos_events.proofs.Progress.{never_stuck}
 use Rattle.psos_events.proofs.ReplayInvariant.{stands_now}
-use Rattle.psos_core.specs.Events.{HasLed, IsUnderWay, MayHappen}
-use Rattle.psos_core.specs.Serving.{Start, IsFrontFrom, IsRunFrom}
+use Rattle.psos_core.specs.EventStates.{HasLed, IsUnderWay, GoesOn}
+use Rattle.psos_core.specs.Events.{MayHappen}
+use Rattle.psos_core.specs.Serving.{Start, IsFrontFrom, AreSettledFrom, IsRunFrom}
 use Rattle.psos_events.proofs.Replays.{runs_stand}
 use Rattle.psos_core.proofs.EventRun.{done}
 
@@ -53,6 +55,11 @@ pub led_still : (s : Script) (c d : CoreState) (start : Start) (turns : List ℕ
     → HasLed s d start turns ⊎ HasLed s d start (turns ++ u ∷ [])
 led_still s c d start turns u h may (inl same) = inl (record { starts = h.starts; enabled = h.enabled; state = same ∙ h.state })
 led_still s c d start turns u h may (inr stepped) = inr (led_more s c d start turns u h may stepped)
+
+-- the script of a core stays
+pub led_by : (s t : Script) (c d : CoreState) (u : ℕ) → t ≡ s → ((start : Start) (turns : List ℕ) → HasLed s c start turns → HasLed t d start (turns ++ u ∷ []))
+    → (start : Start) (turns : List ℕ) → HasLed s c start turns → HasLed s d start (turns ++ u ∷ [])
+led_by s t c d u same made start turns h = subst (λ (z : Script). HasLed z d start (turns ++ u ∷ [])) same (made start turns h)
 
 -- either way events have led there
 pub way_on : (s : Script) (d : CoreState) (start : Start) (turns : List ℕ) (u : ℕ) → HasLed s d start turns ⊎ HasLed s d start (turns ++ u ∷ []) → IsUnderWay s d
@@ -135,6 +142,35 @@ somebody_left test (x ∷ xs) h = by_test (test x) refl (somebody_left test xs) 
 pub somebody_may : (s : Script) (c : CoreState) → IsUnderWay s c → (u : ℕ) → has_left s c.users u ≡ true → (v : ℕ) × IsTrue (is_enabled s c v)
 somebody_may s c h u left =
     subst (λ (d : CoreState). has_left s d.users u ≡ true → (v : ℕ) × IsTrue (is_enabled s d v)) (sym h.after.state) (never_stuck s h.start.system h.start.flat h.turns h.after.starts h.after.enabled u) left
+
+-- a number below a bound that passes a test, or none does
+first_below : (test : ℕ → Bool) (n : ℕ) → ((v : ℕ) × (test v ≡ true)) ⊎ ((v : ℕ) → v < n → test v ≡ false)
+first_below test zero = inr (λ v less. absurd (omega (arith, less)))
+first_below test (suc n) = by_last (test n) refl (first_below test n)
+  where
+    by_last : (b : Bool) → test n ≡ b → ((v : ℕ) × (test v ≡ true)) ⊎ ((v : ℕ) → v < n → test v ≡ false) → ((v : ℕ) × (test v ≡ true)) ⊎ ((v : ℕ) → v < suc n → test v ≡ false)
+    by_last true e h = inl (n, e)
+    by_last false e (inl found) = inl found
+    by_last false e (inr none) = inr (λ v less. by_place v less (cases_eq v n))
+      where
+        by_place : (v : ℕ) → v < suc n → (v ≡ n) ⊎ (v ≡ n → ⊥) → test v ≡ false
+        by_place v less (inl same) = ap test same ∙ e
+        by_place v less (inr apart) = none v (omega (arith, less, apart))
+
+-- of each core that goes on
+pub somebody_goes : (s : Script) (c : CoreState) → ∥ GoesOn s c ∥₁ → (u : ℕ) → has_left s c.users u ≡ true → (v : ℕ) × IsTrue (is_enabled s c v)
+somebody_goes s c goes u left = by_search (first_below (λ v. is_enabled s c v) (length c.users))
+  where
+    one_goes : GoesOn s c → (v : ℕ) × IsTrue (is_enabled s c v)
+    one_goes (inl way) = somebody_may s c way u left
+    one_goes (inr over) = absurd (true≢false (sym left ∙ over.nobody u))
+
+    by_search : ((v : ℕ) × (is_enabled s c v ≡ true)) ⊎ ((v : ℕ) → v < length c.users → is_enabled s c v ≡ false) → (v : ℕ) × IsTrue (is_enabled s c v)
+    by_search (inl found) = found
+    by_search (inr none) = absurd (not_there goes (λ go.
+        let one = one_goes go in
+        let at = there s c one.0 one.1 in
+        true≢false (sym one.1 ∙ none one.0 (slice_get_within c.users one.0 at.user at.here))))
 
 -- so where nobody may go on, nobody has a request left
 pub over_now : (s : Script) (c : CoreState) (h : IsUnderWay s c) → enabled_in s c c.users ≡ [] → (u : ℕ) → has_left s c.users u ≡ false
@@ -235,6 +271,14 @@ front_here s c start turns h =
 pub front_on : (s : Script) (d : CoreState) (start : Start) (turns : List ℕ) (u : ℕ) → HasLed s d start turns ⊎ HasLed s d start (turns ++ u ∷ []) → IsFrontFrom s start.system start.flat d.entries
 front_on s d start turns u (inl h) = front_here s d start turns h
 front_on s d start turns u (inr h) = front_here s d start (turns ++ u ∷ []) h
+
+-- and the users' own parts are settled as in its replay
+pub settled_here : (s : Script) (c : CoreState) (start : Start) (turns : List ℕ) → HasLed s c start turns → AreSettledFrom s start.system c.entries c.users
+settled_here s c start turns h = record { users-are = (done s c (record { start = start; turns = turns; after = h })).users }
+
+pub settled_on : (s : Script) (d : CoreState) (start : Start) (turns : List ℕ) (u : ℕ) → HasLed s d start turns ⊎ HasLed s d start (turns ++ u ∷ []) → AreSettledFrom s start.system d.entries d.users
+settled_on s d start turns u (inl h) = settled_here s d start turns h
+settled_on s d start turns u (inr h) = settled_here s d start (turns ++ u ∷ []) h
 
 -- where nobody has a request left, the run is whole, and its order is that of the turns
 pub whole : (s : Script) (c : CoreState) (start : Start) (seed x : ℕ) (h : IsDrawn s c start seed x) → ((u : ℕ) → has_left s c.users u ≡ false)

@@ -24,6 +24,12 @@ pub asked_is : (found me : User) (request : Request) (trace : List Step) (then n
 asked_is found me request trace then next same told is =
     ap (λ (x : User). next_of (followed (plan_of x request) trace)) (sym same) ∙ (sym told ∙ is)
 
+-- where both are read off
+pub asks_next : (old now slots : List User) (u : ℕ) (found me : User) (request : Request) (trace : List Step) (then next : Next) → slice_get old u ≡ Some me → now ≡ old → slots ≡ now → found ≡ get_or slots u found
+    → then ≡ next_of (followed (plan_of found request) trace) → then ≡ next → next_of (followed (plan_of me request) trace) ≡ next
+asks_next old now slots u found me request trace then next there same read is told asked =
+    asked_is found me request trace then next (found_is old now slots u found me there same read is) told asked
+
 -- where there is no user
 abbrev pub nobody : User
 nobody = record { number = 0; process = 0; answered = 0; charge = 0; within = 0; regs = []; frames = []; path = [] }

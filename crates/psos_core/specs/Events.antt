@@ -2,29 +2,15 @@
 use Rattle.std.specs.Prelude.{◌≡◌, ◌⊎◌, ℕ, ◌<◌, List, length, IsTrue}
 use Rattle.psos_calls.specs.Language.Script.{Script}
 use Rattle.psos_calls.specs.Levels.{level_of}
-use Rattle.psos_model.specs.Events.{CoreState, core_of, core_step, core_after, is_enabled, AreEnabled}
+use Rattle.psos_model.specs.Events.{CoreState, core_step, is_enabled}
 use Rattle.psos_model.specs.Events as events
-use Rattle.psos_model.specs.Events.Serial.{IsCoreStart}
 use Rattle.psos_core.specs.declared.ongoing.Ongoing.{Ongoing}
 use Rattle.psos_core.specs.declared.run.Core.{Core}
 use Rattle.psos_core.specs.declared.event.Event.{Event}
 use Rattle.psos_core.specs.declared.event.Event.TheVariants.{Take, Call, Close}
-use Rattle.psos_core.specs.Plans.{state_in, AreKnown, IsKept}
+use Rattle.psos_core.specs.Plans.{state_in, AreKnown, IsPlanned}
 use Rattle.psos_core.specs.Serving.{Start}
-
--- ---- where a run by events stands
-
--- from a start, the enabled events of these users have led to this state
-pub record HasLed (s : Script) (c : CoreState) (start : Start) (turns : List ℕ) : Type 0 where
-  pub starts : IsCoreStart s start.system start.flat
-  pub enabled : AreEnabled s (core_of start.system) turns
-  pub state : c ≡ core_after s (core_of start.system) turns
-
--- events have led here from a start
-pub record IsUnderWay (s : Script) (c : CoreState) : Type 0 where
-  pub start : Start
-  pub turns : List ℕ
-  pub after : HasLed s c start turns
+use Rattle.psos_core.specs.EventStates.{HasLed, IsUnderWay}
 
 -- ---- an event
 
@@ -37,19 +23,19 @@ pub record MayHappen (s : Script) (c : CoreState) (u : ℕ) : Type 0 where
 -- and all that is kept is known
 pub record MayStep (s : Script) (c : CoreState) (o : Ongoing) (u : ℕ) : Type 0 where
   pub goes : MayHappen s c u
-  pub kept : IsKept s c o.nexts.items o.phase
+  pub planned : IsPlanned s c o.nexts.items o.phase
   pub known : AreKnown o.nexts.items
 
 -- it has happened
 pub record HasStepped (s : Script) (c : CoreState) (u : ℕ) (d : CoreState) (o : Ongoing) : Type 0 where
   pub state : d ≡ core_step s c u
-  pub kept : IsKept s d o.nexts.items o.phase
+  pub planned : IsPlanned s d o.nexts.items o.phase
   pub known : AreKnown o.nexts.items
 
 -- the run stopped at it: before it, or after it
 pub record HasStopped (s : Script) (c : CoreState) (u : ℕ) (d : CoreState) (o : Ongoing) : Type 0 where
   pub state : (d ≡ c) ⊎ (d ≡ core_step s c u)
-  pub kept : IsKept s d o.nexts.items o.phase
+  pub planned : IsPlanned s d o.nexts.items o.phase
 
 -- what is told of an event, where so many entries stood before it
 abbrev pub told : ℕ → events.Event → Event

@@ -5,4 +5,5 @@ pub mod Serving
 pub mod UnderWay
 pub mod Parts
 pub mod Booting
+pub mod EventStates
 pub mod Events

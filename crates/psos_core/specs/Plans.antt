@@ -96,7 +96,7 @@ pub record AreFirst (s : Script) (users : List User) (nexts : List Upcoming) : T
   pub known : AreKnown nexts
 
 -- a core has all users of its script, and what is kept beside its state tells what each user's plan does next, and the current phase
-pub record IsKept (s : Script) (c : CoreState) (nexts : List Upcoming) (phase : Option ℕ) : Type 0 where
+pub record IsPlanned (s : Script) (c : CoreState) (nexts : List Upcoming) (phase : Option ℕ) : Type 0 where
   pub users : length c.users ≡ length s.users
   pub held : length c.held ≡ length s.users
   pub traces : length c.traces ≡ length s.users

@@ -1,5 +1,5 @@
 -- What serving one request, and all of them, leaves. States docs/promises.md, "Replays".
-use Rattle.std.specs.Prelude.{◌≡◌, ◌+◌, ◌≤◌, ◌<◌, ◌^◌, ℕ, false, List, slice_get, map, Some}
+use Rattle.std.specs.Prelude.{◌≡◌, ◌+◌, ◌≤◌, ◌<◌, ◌^◌, ℕ, false, List, [], ◌∷◌, ◌++◌, slice_get, map, Some}
 use Rattle.psos_calls.specs.declared.request.Request.{Request}
 use Rattle.psos_calls.specs.declared.reply.Reply.{Reply}
 use Rattle.psos_calls.specs.declared.effect.Effect.{Effect}
@@ -49,10 +49,10 @@ pub record Asks (s : Script) (y : System) (u : ℕ) (request : Request) : Type 0
   pub room : flat.next + 3 ≤ 2 ^ 64
   pub count : CanCount user user.frames
 
--- user u's next request was served by its plan
-pub record IsServed (s : Script) (old : System) (u : ℕ) (new : System) (entry : Entry) : Type 0 where
+-- user u's next request was served by its plan, and its entry came last
+pub record IsServed (s : Script) (old : System) (before : List Entry) (u : ℕ) (new : System) (entries : List Entry) : Type 0 where
   pub system-is : new ≡ (replay_step s old u).0
-  pub entry-is : entry ≡ (replay_step s old u).1
+  pub entries-are : entries ≡ before ++ (replay_step s old u).1 ∷ []
 
 -- ---- all requests
 
@@ -61,6 +61,10 @@ pub record IsFrontFrom (s : Script) (y : System) (f : Flat) (entries : List Entr
   pub legal : IsLegalFrom s f (order_of entries)
   pub recorded : entries ≡ entries_from s y (order_of entries)
   pub answered : map answered_of entries ≡ answers_from s f (order_of entries)
+
+-- from such a start, the users' own parts are settled as in that replay: no request has closed but those of the entries, and each of these has
+pub record AreSettledFrom (s : Script) (y : System) (entries : List Entry) (users : List User) : Type 0 where
+  pub users-are : users ≡ (replay_from s y (order_of entries)).users
 
 -- a whole run: nobody has a request left, the requests come in such an order, the levels are those of the replay and stand for the flat state of the run, and the laws hold at every point of it
 pub record IsRunFrom (s : Script) (y : System) (f : Flat) (InOrder : List ℕ → Type 0) (entries : List Entry) (left : System) : Type 0 where

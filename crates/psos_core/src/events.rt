@@ -5,7 +5,7 @@ ghost use Rattle.psos_model.specs.Events.{is_enabled, event_of, core_step};
 ghost use Rattle.psos_core.specs.Faults.{MayStop, CanStopAt};
 ghost use Rattle.psos_core.specs.Serving.{Start};
 ghost use Rattle.psos_core.specs.Plans.{next_for, may_go};
-ghost use Rattle.psos_core.specs.Events.{core_state_of, IsAfter, IsGoing, MayGo, told};
+ghost use Rattle.psos_core.specs.Events.{core_state_of, IsAfter, MayGo, told};
 
 use crate::step::step;
 use crate::{Core, Event};
@@ -34,11 +34,11 @@ impl<B: Store> Core<B> {
         self.ongoing.may_go(self.levels.privates.len() as u8, user)
     }
 
-    /// Whether no user has a request left, of every core. Where events have led here and a user has one left, some user
-    /// may go on: a run by events is never stuck. It takes no memory.
+    /// Whether no user has a request left, of every core. Where the core is not stopped and a user has one left, some
+    /// user may go on: a run by events is never stuck. It takes no memory.
     pub fn finished(&self) -> bool
         ensures over { IsTrue result ↔ ((u : ℕ) → has_left self.now.script self.now.levels.privates.items u ≡ false) }
-        ensures goes_on { IsGoing self.now → result ≡ false → (v : ℕ) × IsTrue (is_enabled self.now.script (core_state_of self.now) v) }
+        ensures goes_on { self.now.stopped ≡ None → result ≡ false → (v : ℕ) × IsTrue (is_enabled self.now.script (core_state_of self.now) v) }
     {
         none_left(
             &self.script,

@@ -7,8 +7,9 @@ ghost use Rattle.psos_model.specs.Events.Serial.{IsCoreStart};
 ghost use Rattle.psos_model.specs.Run.SerialOrder.{IsSerialFrom};
 ghost use Rattle.psos_core.specs.System.{system_of};
 ghost use Rattle.psos_core.specs.Faults.{MayStop};
-ghost use Rattle.psos_core.specs.Plans.{state_in, AreKnown, IsKept};
-ghost use Rattle.psos_core.specs.Serving.{IsFrontFrom, IsRunFrom};
+ghost use Rattle.psos_core.specs.Plans.{state_in, AreKnown, IsPlanned};
+ghost use Rattle.psos_core.specs.EventStates.{GoesOn};
+ghost use Rattle.psos_core.specs.Serving.{IsFrontFrom, AreSettledFrom, IsRunFrom};
 ghost use Rattle.psos_core.specs.Parts.{levels_of_stop, store_of_stop};
 
 use crate::Levels;
@@ -22,7 +23,8 @@ use std::snapshot::Snapshot;
 
 /// A run of a script over the levels (docs/levels.md, "Levels"). Its fields are there to be read. In every core, also a
 /// stopped one, what is kept of the users' plans goes with the levels, and where the store was the cause of a stop, its
-/// count of faults is above that with which the core was made.
+/// count of faults is above that with which the core was made. A core that is not stopped goes on by events, or nobody
+/// has a request left.
 #[derive(Drop)]
 pub struct Core<B: Store> {
     pub script: Script,
@@ -37,8 +39,9 @@ pub struct Core<B: Store> {
     trace: Trace,
     // What users have under way in a run by events.
     pub(crate) ongoing: Ongoing,
-    ghost kept: { IsKept script (state_in levels ongoing entries) ongoing.nexts.items ongoing.phase },
+    ghost planned: { IsPlanned script (state_in levels ongoing entries) ongoing.nexts.items ongoing.phase },
     ghost known: { stopped ≡ None → AreKnown ongoing.nexts.items },
+    ghost goes_on: { stopped ≡ None → ∥ GoesOn script (state_in levels ongoing entries) ∥₁ },
     ghost later: { start_faults.value ≤ B.faults levels.pages.store },
     ghost rose: { stopped ≡ Some stops.Store → Rose start_faults.value (B.faults levels.pages.store) },
 }
@@ -96,7 +99,7 @@ impl<B: Store> Core<B> {
 
     /// Runs the script to its end: phase by phase, and in each phase user by user in the order of the script. Nothing
     /// was run before, and the run is not stopped. It stops for want of memory, or for a fault of the store, which its
-    /// count shows; the entries are then those of the requests that closed before, and of no other.
+    /// count shows; the entries are then those of the requests that closed before, all of them and no other.
     pub fn serial(&mut self, alloc: Global) -> Result<(), StopCause>
         ghost flat: { Flat }
         requires start { IsCoreStart self.old.script (system_of self.old.levels) flat }
@@ -105,6 +108,7 @@ impl<B: Store> Core<B> {
         ensures run { OnOk result (IsRunFrom self.old.script (system_of self.old.levels) flat (IsSerialFrom self.old.script flat)
             self.new.entries (system_of self.new.levels)) }
         ensures front { IsFrontFrom self.old.script (system_of self.old.levels) flat self.new.entries }
+        ensures settled { AreSettledFrom self.old.script (system_of self.old.levels) self.new.entries self.new.levels.privates.items }
         ensures script { self.new.script ≡ self.old.script }
         ensures going { OnOk result (self.new.stopped ≡ None) }
         ensures stopped { IfErr result (λ cause. self.new.stopped ≡ Some cause) }
@@ -125,6 +129,25 @@ impl<B: Store> Core<B> {
             self.stopped = Some(cause);
         }
         ran
+    }
+
+    /// The script, the entries and the levels of a run that was not stopped.
+    pub fn into_run(self) -> (Script, Entries<Entry>, Levels<B>)
+        requires going { self.stopped ≡ None }
+        ensures script { result.0 ≡ self.script }
+        ensures entries { result.1 ≡ self.entries }
+        ensures levels { result.2 ≡ self.levels }
+    {
+        let Core {
+            script,
+            levels,
+            entries,
+            stopped: _,
+            start_faults: _,
+            trace: _,
+            ongoing: _,
+        } = self;
+        (script, entries, levels)
     }
 
     /// The script, and what the run leaves. The levels are given where it was not stopped, and the store where it was:

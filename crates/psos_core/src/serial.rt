@@ -6,7 +6,7 @@ ghost use Rattle.psos_model.specs.Events.Serial.{IsCoreStart};
 ghost use Rattle.psos_model.specs.Run.SerialOrder.{IsSerialFrom};
 ghost use Rattle.psos_core.specs.System.{system_of};
 ghost use Rattle.psos_core.specs.Faults.{MayStop};
-ghost use Rattle.psos_core.specs.Serving.{Start, IsFrontFrom, IsRunFrom};
+ghost use Rattle.psos_core.specs.Serving.{Start, IsFrontFrom, AreSettledFrom, IsRunFrom};
 ghost use Rattle.psos_core.specs.UnderWay.{phases_most, asked_before, due, HasServed};
 
 use crate::Levels;
@@ -84,15 +84,13 @@ fn serve_user<B: Store>(
     requires before { HasServed script.now start.system start.flat (system_of levels.old) entries.old p u }
     ensures served { OnOk result (HasServed script.now start.system start.flat (system_of levels.new) entries.new p (u + 1)) }
     ensures front { IsFrontFrom script.now start.system start.flat entries.new }
+    ensures settled { AreSettledFrom script.now start.system entries.new levels.new.privates.items }
     ensures users { length levels.new.privates.items ≡ length levels.old.privates.items }
     ensures cause { MayStop (B.faults levels.old.pages.store) (B.faults levels.new.pages.store) result }
 {
     let count = asked_up_to(script, p, u);
     'turns: while let Some(request) = due(script, &levels.privates.as_slice()[u], count) {
-        let entry = serve(alloc, script, levels, trace, u as u8, &request)?;
-        if entries.push(entry).is_err() {
-            return Err(StopCause::Memory);
-        }
+        serve(alloc, script, levels, trace, entries, u as u8, &request)?;
     }
     Ok(())
 }
@@ -112,6 +110,7 @@ fn serve_users<B: Store>(
     requires before { HasServed script.now start.system start.flat (system_of levels.old) entries.old p 0 }
     ensures served { OnOk result (HasServed script.now start.system start.flat (system_of levels.new) entries.new (p + 1) 0) }
     ensures front { IsFrontFrom script.now start.system start.flat entries.new }
+    ensures settled { AreSettledFrom script.now start.system entries.new levels.new.privates.items }
     ensures users { length levels.new.privates.items ≡ length levels.old.privates.items }
     ensures cause { MayStop (B.faults levels.old.pages.store) (B.faults levels.new.pages.store) result }
 {
@@ -124,7 +123,7 @@ fn serve_users<B: Store>(
 /// Serves all requests of the script from a start, each time the next request of the first user that has one left: a
 /// user's requests of a phase one after another, with the lines of the bodies that they open, then those of the next
 /// user, and a phase when all users are through with the one before. It stops for want of memory, or for a fault of
-/// the store, which its count shows; the entries are then those of the requests that closed before.
+/// the store, which its count shows; the entries are then those of the requests that closed before, all of them.
 pub(crate) fn serve_phases<B: Store>(
     alloc: Global,
     script: &Script,
@@ -138,6 +137,7 @@ pub(crate) fn serve_phases<B: Store>(
     requires fresh { entries.old ≡ [] }
     ensures run { OnOk result (IsRunFrom script.now start.system start.flat (IsSerialFrom script.now start.flat) entries.new (system_of levels.new)) }
     ensures front { IsFrontFrom script.now start.system start.flat entries.new }
+    ensures settled { AreSettledFrom script.now start.system entries.new levels.new.privates.items }
     ensures users { length levels.new.privates.items ≡ length levels.old.privates.items }
     ensures cause { MayStop (B.faults levels.old.pages.store) (B.faults levels.new.pages.store) result }
 {

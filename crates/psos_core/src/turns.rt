@@ -4,7 +4,7 @@ ghost use Rattle.psos_model.specs.Flat.{Flat};
 ghost use Rattle.psos_model.specs.Events.Turns.{enabled_in, IsTurnsOrderFrom};
 ghost use Rattle.psos_core.specs.System.{system_of};
 ghost use Rattle.psos_core.specs.Faults.{MayStop};
-ghost use Rattle.psos_core.specs.Serving.{IsFrontFrom, IsRunFrom};
+ghost use Rattle.psos_core.specs.Serving.{IsFrontFrom, AreSettledFrom, IsRunFrom};
 ghost use Rattle.psos_core.specs.Events.{core_state_of, IsAfter, IsGoing};
 
 use crate::Core;
@@ -32,7 +32,7 @@ impl<B: Store> Core<B> {
     /// Runs the script to its end in turns: each turn is the event of a user that is drawn among those that may go on
     /// (docs/program.md, "Turns"). Nothing was run before, and the run is not stopped. It stops for want of memory, or
     /// for a fault of the store, which its count shows; the entries are then those of the requests that closed before,
-    /// and of no other.
+    /// all of them and no other.
     pub fn turns(&mut self, alloc: Global, seed: u64) -> Result<(), StopCause>
         ghost flat: { Flat }
         requires fresh { IsAfter self.old (record { system = system_of self.old.levels; flat = flat }) [] }
@@ -41,6 +41,7 @@ impl<B: Store> Core<B> {
             (IsTurnsOrderFrom self.old.script (system_of self.old.levels) seed)
             self.new.entries (system_of self.new.levels)) }
         ensures front { IsFrontFrom self.old.script (system_of self.old.levels) flat self.new.entries }
+        ensures settled { AreSettledFrom self.old.script (system_of self.old.levels) self.new.entries self.new.levels.privates.items }
         ensures under_way { IsGoing self.new }
         ensures script { self.new.script ≡ self.old.script }
         ensures going { OnOk result (self.new.stopped ≡ None) }

@@ -5,9 +5,9 @@ use Rattle.psos_calls.specs.declared.step.Step.{Step}
 use Rattle.psos_calls.specs.Language.User.{User}
 use Rattle.psos_calls.specs.Levels.{act}
 use Rattle.psos_calls.specs.Plan.Requests.{plan_of}
-use Rattle.psos_calls.specs.Plan.Trace.{followed, next_of, IsTraceOf}
+use Rattle.psos_calls.specs.Plan.Trace.{followed, IsTraceOf}
 use Rattle.psos_core.proofs.PlanRun.{IsLeft, all_left, can_ask, level_is, left_more, fewer_left, whole_at_close}
-use Rattle.psos_core.proofs.UserSlots.{found_is, asked_is}
+use Rattle.psos_core.proofs.UserSlots.{found_is, asks_next}
 use Rattle.psos_core.specs.System.{levels_of}
 use Rattle.psos_core.proofs.perform.perform.Goals as goal
 
@@ -32,44 +32,26 @@ next-requires-clause-trace g c =
 
 pub make-requires-clause-level : goal.make-requires-clause-level
 make-requires-clause-level g c =
-    let found : c.index-as_slice-u.result ≡ g.me = found_is c.args.levels.now.privates.items c.walk.levels.privates.items c.as_slice.result.now c.args.u c.index-as_slice-u.result g.me c.requires.1.0 (ap (λ p. p.items) c.walk.invariant.1) c.as_slice.ensures.value c.index-as_slice-u.is in
-    let told : c.in-Ok.then ≡ next_of (followed (plan_of c.index-as_slice-u.result c.args.request.now) c.walk.trace) = c.in-Ok.ensures.answer in
-    let asked = asked_is c.index-as_slice-u.result g.me c.args.request.now c.walk.trace c.in-Ok.then (nexts.Call c.in-Call.level c.in-Call.call) found told c.in-Call.is in
+    let asked = asks_next _ _ _ _ c.index-as_slice-u.result g.me c.args.request.now c.walk.trace c.in-Ok.then (nexts.Call c.in-Call.level c.in-Call.call) c.requires.1.0 (ap (λ p. p.items) c.walk.invariant.1) c.as_slice.ensures.value c.index-as_slice-u.is c.in-Ok.ensures.answer c.in-Call.is in
     level_is (followed (plan_of g.me c.args.request.now) c.walk.trace) c.in-Call.level c.in-Call.call asked
 
 pub make-requires-clause-can : goal.make-requires-clause-can
 make-requires-clause-can g c =
-    let found : c.index-as_slice-u.result ≡ g.me = found_is c.args.levels.now.privates.items c.walk.levels.privates.items c.as_slice.result.now c.args.u c.index-as_slice-u.result g.me c.requires.1.0 (ap (λ p. p.items) c.walk.invariant.1) c.as_slice.ensures.value c.index-as_slice-u.is in
-    let told : c.in-Ok.then ≡ next_of (followed (plan_of c.index-as_slice-u.result c.args.request.now) c.walk.trace) = c.in-Ok.ensures.answer in
-    let asked = asked_is c.index-as_slice-u.result g.me c.args.request.now c.walk.trace c.in-Ok.then (nexts.Call c.in-Call.level c.in-Call.call) found told c.in-Call.is in
+    let asked = asks_next _ _ _ _ c.index-as_slice-u.result g.me c.args.request.now c.walk.trace c.in-Ok.then (nexts.Call c.in-Call.level c.in-Call.call) c.requires.1.0 (ap (λ p. p.items) c.walk.invariant.1) c.as_slice.ensures.value c.index-as_slice-u.is c.in-Ok.ensures.answer c.in-Call.is in
     can_ask (followed (plan_of g.me c.args.request.now) c.walk.trace) (levels_of c.walk.levels) c.in-Call.level c.in-Call.call c.walk.invariant.0.can asked
 
 pub walk-smaller : goal.walk-smaller
 walk-smaller g c =
-    let found : c.index-as_slice-u.result ≡ g.me = found_is c.args.levels.now.privates.items c.walk.levels.privates.items c.as_slice.result.now c.args.u c.index-as_slice-u.result g.me c.requires.1.0 (ap (λ p. p.items) c.walk.invariant.1) c.as_slice.ensures.value c.index-as_slice-u.is in
-    let told : c.in-Ok.then ≡ next_of (followed (plan_of c.index-as_slice-u.result c.args.request.now) c.walk.trace) = c.in-Ok.ensures.answer in
-    let asked = asked_is c.index-as_slice-u.result g.me c.args.request.now c.walk.trace c.in-Ok.then (nexts.Call c.in-Call.level c.in-Call.call) found told c.in-Call.is in
-    let start = levels_of c.args.levels.now in
-    let here = levels_of c.walk.levels in
-    let p = plan_of g.me c.args.request.now in
-    let call = c.in-Call.call in
-    rw (c.in_ok-make-in-Call.ensures.trace) (fewer_left p start here c.walk.trace c.in-Call.level call (act here call).1 (levels_of c.make.new.levels) c.walk.invariant.0 asked refl c.in_ok-make-in-Call.ensures.levels)
+    let asked = asks_next _ _ _ _ c.index-as_slice-u.result g.me c.args.request.now c.walk.trace c.in-Ok.then (nexts.Call c.in-Call.level c.in-Call.call) c.requires.1.0 (ap (λ p. p.items) c.walk.invariant.1) c.as_slice.ensures.value c.index-as_slice-u.is c.in-Ok.ensures.answer c.in-Call.is in
+    rw (c.in_ok-make-in-Call.ensures.trace) (fewer_left _ _ _ _ _ _ _ (levels_of c.make.new.levels) c.walk.invariant.0 asked refl c.in_ok-make-in-Call.ensures.levels)
 
 pub walk-preserved : goal.walk-preserved
 walk-preserved g c =
-    let found : c.index-as_slice-u.result ≡ g.me = found_is c.args.levels.now.privates.items c.walk.levels.privates.items c.as_slice.result.now c.args.u c.index-as_slice-u.result g.me c.requires.1.0 (ap (λ p. p.items) c.walk.invariant.1) c.as_slice.ensures.value c.index-as_slice-u.is in
-    let told : c.in-Ok.then ≡ next_of (followed (plan_of c.index-as_slice-u.result c.args.request.now) c.walk.trace) = c.in-Ok.ensures.answer in
-    let asked = asked_is c.index-as_slice-u.result g.me c.args.request.now c.walk.trace c.in-Ok.then (nexts.Call c.in-Call.level c.in-Call.call) found told c.in-Call.is in
-    let start = levels_of c.args.levels.now in
-    let here = levels_of c.walk.levels in
-    let p = plan_of g.me c.args.request.now in
-    let call = c.in-Call.call in
-    let left = left_more p start here c.walk.trace c.in-Call.level call (act here call).1 (levels_of c.make.new.levels) c.walk.invariant.0 asked refl c.in_ok-make-in-Call.ensures.levels in
+    let asked = asks_next _ _ _ _ c.index-as_slice-u.result g.me c.args.request.now c.walk.trace c.in-Ok.then (nexts.Call c.in-Call.level c.in-Call.call) c.requires.1.0 (ap (λ p. p.items) c.walk.invariant.1) c.as_slice.ensures.value c.index-as_slice-u.is c.in-Ok.ensures.answer c.in-Call.is in
+    let left = left_more _ _ _ _ _ _ _ (levels_of c.make.new.levels) c.walk.invariant.0 asked refl c.in_ok-make-in-Call.ensures.levels in
     (rw (c.in_ok-make-in-Call.ensures.trace) left, c.make.ensures.privates ∙ c.walk.invariant.1, omega (arith, c.make.ensures.cause.later, c.walk.invariant.2))
 
 pub returns-in-Close-clause-ran : goal.returns-in-Close-clause-ran
 returns-in-Close-clause-ran g c =
-    let found : c.index-as_slice-u.result ≡ g.me = found_is c.args.levels.now.privates.items c.walk.levels.privates.items c.as_slice.result.now c.args.u c.index-as_slice-u.result g.me c.requires.1.0 (ap (λ p. p.items) c.walk.invariant.1) c.as_slice.ensures.value c.index-as_slice-u.is in
-    let told : c.in-Ok.then ≡ next_of (followed (plan_of c.index-as_slice-u.result c.args.request.now) c.walk.trace) = c.in-Ok.ensures.answer in
-    let closed = asked_is c.index-as_slice-u.result g.me c.args.request.now c.walk.trace c.in-Ok.then (nexts.Close c.in-Close.reply c.in-Close.effect) found told c.in-Close.is in
+    let closed = asks_next _ _ _ _ c.index-as_slice-u.result g.me c.args.request.now c.walk.trace c.in-Ok.then (nexts.Close c.in-Close.reply c.in-Close.effect) c.requires.1.0 (ap (λ p. p.items) c.walk.invariant.1) c.as_slice.ensures.value c.index-as_slice-u.is c.in-Ok.ensures.answer c.in-Close.is in
     whole_at_close (plan_of g.me c.args.request.now) (levels_of c.args.levels.now) (levels_of c.walk.levels) c.walk.trace c.in-Close.reply c.in-Close.effect c.walk.invariant.0 closed

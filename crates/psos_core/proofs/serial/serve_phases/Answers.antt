@@ -2,7 +2,7 @@ use Rattle.std.proofs.Common.{List, refl, sym, arith, subst}
 use Rattle.psos_calls.specs.declared.entry.Entry.{Entry}
 use Rattle.psos_core.specs.System.{system_of}
 use Rattle.psos_core.specs.UnderWay.{HasServed}
-use Rattle.psos_core.proofs.SerialRun.{at_start, at_end, front_so_far}
+use Rattle.psos_core.proofs.SerialRun.{at_start, at_end, front_so_far, settled_so_far}
 use Rattle.psos_core.proofs.serial.serve_phases.Goals as goal
 
 pub phases-init : goal.phases-init
@@ -17,3 +17,6 @@ returns-clause-run g c =
 
 pub returns-clause-front : goal.returns-clause-front
 returns-clause-front g c = front_so_far c.args.script.now g.start.system g.start.flat (system_of c.phases.levels) c.phases.entries c.phases.p 0 c.requires.1.0 c.phases.invariant.0
+
+pub returns-clause-settled : goal.returns-clause-settled
+returns-clause-settled g c = settled_so_far c.args.script.now g.start.system g.start.flat (system_of c.phases.levels) c.phases.entries c.phases.p 0 c.phases.invariant.0

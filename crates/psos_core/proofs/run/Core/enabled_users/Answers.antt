@@ -9,7 +9,7 @@ use Rattle.psos_core.proofs.run.Core.enabled_users.Goals as goal
 use Rattle.psos_core.proofs.run.Core.enabled_users.Goals.{then-enabled, else-enabled}
 
 pub enabled-requires : goal.enabled-requires
-enabled-requires g c = grind (arith, c.args.self.now.kept.users)
+enabled-requires g c = grind (arith, c.args.self.now.planned.users)
 
 pub users-preserved : goal.users-preserved
 users-preserved g c =

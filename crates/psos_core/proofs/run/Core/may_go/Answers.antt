@@ -12,10 +12,10 @@ may_go-requires g c =
     let now = core_state_of core in
     let u = c.args.user in
     record {
-      users = omega (arith, c.len.ensures.value, core.kept.users, core.kept.held);
-      user = omega (arith, c.requires, core.kept.held);
-      all = core.kept.all ∙ sym core.kept.held;
-      level = known_leveled (slice_index_or core.ongoing.nexts.items u upcoming.Nothing) (next_for core.script now u) (core.kept.each u) (leveled core.script now u);
+      users = omega (arith, c.len.ensures.value, core.planned.users, core.planned.held);
+      user = omega (arith, c.requires, core.planned.held);
+      all = core.planned.all ∙ sym core.planned.held;
+      level = known_leveled (slice_index_or core.ongoing.nexts.items u upcoming.Nothing) (next_for core.script now u) (core.planned.each u) (leveled core.script now u);
     }
 
 pub returns : goal.returns
@@ -24,4 +24,4 @@ returns g c =
     let now = core_state_of core in
     let u = c.args.user in
     let next = next_for core.script now u in
-    c.may_go.ensures next (core.kept.each u) ∙ ap (λ (n : ℕ). may_go n core.ongoing.held u next) (c.len.ensures.value ∙ core.kept.users)
+    c.may_go.ensures next (core.planned.each u) ∙ ap (λ (n : ℕ). may_go n core.ongoing.held u next) (c.len.ensures.value ∙ core.planned.users)
