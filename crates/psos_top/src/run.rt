@@ -35,16 +35,8 @@ fn print_run<K: Sink, B: Store>(alloc: Global, core: Core<B>, output: &mut K) ->
     ensures either { result.levels ≡ None → result.store ≡ Some core.levels.pages.store }
     ensures store_faults { result.store_faults ≡ B.faults core.levels.pages.store }
 {
-    let (script, parts) = core.into_parts();
-    let Parts {
-        entries,
-        levels,
-        ..
-    } = parts;
-    match levels {
-        Some(levels) => finish(alloc, &script, entries, levels, output),
-        None => unreachable!(),
-    }
+    let (script, entries, levels) = core.into_run();
+    finish(alloc, &script, entries, levels, output)
 }
 
 // Runs a script from boot to its end, in the order of the command.
