@@ -17,13 +17,14 @@ use Rattle.psos_model.specs.Text.Output.{calls_of}
 use Rattle.psos_model.specs.Sound.{IsSound}
 use Rattle.psos_model.specs.Replay.StandsFor.{StandsFor}
 use Rattle.psos_model.specs.Run.SerialOrder.{IsFirst, IsSerialFrom}
-use Rattle.psos_model.proofs.AnswerBounds.{at_most_two}
 use Rattle.psos_model.proofs.RequestRanges.{can_count}
 use Rattle.psos_laws.proofs.SoundRuns.{runs_kept}
 use Rattle.psos_laws.proofs.PlacesRuns.{runs_are_lawful}
 use Rattle.psos_laws.proofs.RoomToStep.{can_step}
 use Rattle.psos_laws.proofs.OrderLengths.{orders_end}
-use Rattle.psos_laws.proofs.AnswerProgress.{AreGoing, turn, turn_going, start_going}
+use Rattle.psos_laws.proofs.AnswerProgress.{AreGoing, turn, start_going}
+use Rattle.psos_laws.proofs.CompleteOrders.{run_going}
+use Rattle.psos_laws.proofs.WatchedRuns.{next_most}
 use Rattle.psos_core.specs.UnderWay.{phases_most, asked_before, due, IsPast, IsAt, HasServed}
 use Rattle.psos_model.specs.Events.Serial.{IsCoreStart}
 use Rattle.psos_core.specs.Serving.{Asks, IsServed, IsFrontFrom, AreSettledFrom, IsRunFrom, IsWholeRun}
@@ -34,19 +35,6 @@ use Rattle.psos_model.proofs.Orders.{run_append, serial_more, serial_legal, orde
 use Rattle.psos_events.proofs.Replays.{runs_stand}
 use Rattle.psos_core.proofs.PhaseRequests.{asked_all}
 use Rattle.psos_core.proofs.SerialOrder.{due_some, due_none, due_phase, past_phase, goes_within, is_first, nobody_left, at_first, at_more, at_user, at_phase}
-
--- after a legal order all users are on their way
-going_after : (s : Script) (y : System) (f : Flat) (order : List ℕ) → IsCoreStart s y f → IsLegalFrom s f order → AreGoing s (run_from s f order).users
-going_after s y f order start legal = by_order order f (start_going s f start.start) legal
-  where
-    by_order : (order : List ℕ) (f : Flat) → AreGoing s f.users → IsLegalFrom s f order → AreGoing s (run_from s f order).users
-    by_order [] f h legal = h
-    by_order (u ∷ us) f h legal = by_order us (answer s f u).0 (turn_going s f u h (turn s start.well_formed f u h legal.0)) legal.1
-
--- an order uses two identifiers a request at most
-next_after : (s : Script) (order : List ℕ) (f : Flat) → (run_from s f order).next ≤ f.next + 2 * length order
-next_after s [] f = omega arith
-next_after s (u ∷ us) f = omega (arith, next_after s us (answer s f u).0, at_most_two s f u)
 
 -- what is found in user u's place, and what it asks next in the phases up to p
 pub record Finds (s : Script) (now : System) (p u : ℕ) (x : User) (asked : Option Request) : Type 0 where
@@ -71,7 +59,7 @@ module _ (s : Script) (y : System) (f : Flat) (start : IsCoreStart s y f) (now :
   sound = runs_kept s f order start.well_formed start.start.sound
 
   going : AreGoing s flat.users
-  going = going_after s y f order start legal
+  going = run_going s start.well_formed order f (start_going s f start.start) legal
 
   -- there are few requests
   pub few : length entries ≤ 32768
@@ -79,7 +67,7 @@ module _ (s : Script) (y : System) (f : Flat) (start : IsCoreStart s y f) (now :
 
   -- identifiers are left
   room : flat.next + 3 ≤ 2 ^ 64
-  room = omega (arith, next_after s order f, start.start.next, few, order_length entries)
+  room = omega (arith, next_most s order f, start.start.next, few, order_length entries)
 
   -- all users are there
   pub all_users : length now.users ≡ length s.users

@@ -1,5 +1,5 @@
 -- Why a call of a level, or a run, may stop. States docs/levels.md, "Levels", and docs/program.md, "Statuses".
-use Rattle.std.specs.Prelude.{◌≡◌, ◌≤◌, ◌||◌, ◌⊎◌, ℕ, Bool, Option, Some, None, Result, IfErr, IsTrue}
+use Rattle.std.specs.Prelude.{◌≡◌, ◌≤◌, ◌⊎◌, ℕ, Option, Some, None, Result, IfErr, IsTrue}
 use Rattle.psos_io.specs.Causes.{Rose}
 use Rattle.psos_calls.specs.declared.level.Level.TheVariants.{L7}
 use Rattle.psos_calls.specs.declared.level_call.LevelCall.{LevelCall}
@@ -7,12 +7,7 @@ use Rattle.psos_calls.specs.declared.level_answer.LevelAnswer.{LevelAnswer}
 use Rattle.psos_calls.specs.declared.level_fault.LevelFault.{LevelFault}
 use Rattle.psos_calls.specs.declared.level_fault.LevelFault.TheVariants as faults
 use Rattle.psos_calls.specs.declared.next.Next.{Next}
-use Rattle.psos_calls.specs.Levels.{level_of}
-use Rattle.psos_segs.specs.Within as segs
-use Rattle.psos_types.specs.Rows as types
-use Rattle.psos_dirs.specs.Rows as dirs
-use Rattle.psos_life.specs.Rows as life
-use Rattle.psos_codes.specs.Rows as codes
+use Rattle.psos_calls.specs.Levels.{level_of, adds_row}
 use Rattle.psos_model.specs.Events.{Event, Take, Call, Close}
 use Rattle.psos_journal.specs.declared.stop_cause.StopCause.{StopCause}
 use Rattle.psos_journal.specs.declared.stop_cause.StopCause.TheVariants as stops
@@ -31,10 +26,6 @@ pub record MayStop {T : Type 0} (before now : ℕ) (result : Result T StopCause)
   pub store : IfErr result (λ cause. cause ≡ stops.Store → Rose before now)
 
 -- ---- what may fault, and why
-
--- a call that adds a row at its level
-abbrev pub adds_row : LevelCall → Bool
-adds_row call = segs.adds_row call || types.adds_row call || dirs.adds_row call || life.adds_row call || codes.adds_row call
 
 -- memory may be wanting where a call adds a row, and the store may fail at level 7
 abbrev pub CanFault : LevelCall → LevelFault → Type 0

@@ -4,7 +4,7 @@ use Rattle.psos_store.proofs.FreeSlots.{least_free-take}
 use Rattle.psos_store.proofs.slots.Slots.take.Goals as goal
 
 pub bounds-self-inside-slot : goal.bounds-self-inside-slot
-bounds-self-inside-slot c = omega (arith, c.least-slot.ensures.least, c.least-slot.ensures.few, c.if-slot-eq521.false)
+bounds-self-inside-slot c = omega (arith, c.least-slot.ensures.least, c.least-slot.ensures.few, c.if-slot-eq-SLOTS.false)
 
 pub overflow_cast-result : goal.overflow_cast-result
 overflow_cast-result c = omega (arith, c.least-slot.ensures.least, c.least-slot.ensures.few)
