@@ -2,17 +2,25 @@
 //!
 //! Scripts stand on standard input, each behind a line `== NAME`. For each, this line is printed, the transcript that
 //! the plain program gives, or the number of its lines where they are many, and whether the core gives the same.
+//! Behind them it prints what the reader says of scripts at the limits of the language, and lines and transcripts of
+//! entries that no script has to give.
 #![tactic(auto)]
 
+mod limits;
+mod lines;
 mod parts;
 mod runs;
+mod transcripts;
 
+use limits::put_limits;
+use lines::put_lines;
 use parts::next_part;
 use psos_io::{NoStore, StdSink, StdSource, put_all, read_all};
 use psos_script::read_script;
 use runs::{core_text, flat_text};
 use std::alloc::{AllocError, Global};
 use std::process::ExitCode;
+use transcripts::put_transcripts;
 
 // How many lines of a transcript are printed at most.
 const MOST_LINES: usize = 600;
@@ -64,6 +72,15 @@ fn put_all_parts(alloc: Global, bytes: &[u8]) -> Result<Vec<u8>, AllocError> {
     Ok(out)
 }
 
+// All that is printed.
+fn all(alloc: Global, bytes: &[u8]) -> Result<Vec<u8>, AllocError> {
+    let mut out = put_all_parts(alloc, bytes)?;
+    put_limits(alloc, &mut out)?;
+    put_lines(alloc, &mut out)?;
+    put_transcripts(alloc, &mut out)?;
+    Ok(out)
+}
+
 fn main(rt: HostRuntime) -> ExitCode {
     let alloc = rt.alloc();
     let mut input = StdSource::new(rt.stdin());
@@ -71,7 +88,7 @@ fn main(rt: HostRuntime) -> ExitCode {
     let Ok(bytes) = read_all(alloc, &mut input) else {
         return ExitCode::from(3);
     };
-    let Ok(text) = put_all_parts(alloc, &bytes) else {
+    let Ok(text) = all(alloc, &bytes) else {
         return ExitCode::from(6);
     };
     match put_all(&mut output, &text) {
