@@ -39,7 +39,7 @@ impl<B: Store> Levels<B> {
     /// home and scratch segment, and the entry of the scratch segment in each home. No page but the first of each home
     /// is touched, and the store stays as it was: no call of it is made. The number of frames has no effect today.
     ///
-    /// `Err` only where memory runs out. or for a fault of the store in a call of level 7; today there is no such
+    /// `Err` only where memory runs out, or for a fault of the store in a call of level 7; today there is no such
     /// fault.
     pub fn boot(
         alloc: Global,

@@ -72,9 +72,8 @@ impl<B: Store> Core<B> {
     ghost use Rattle.psos_core.specs.Events.{IsAfter};
 
     /// A run that is to start from these levels, which stand for a sound flat state in which no request of the script
-    /// is answered, no body is open and the next identifier is at most 2^63. `Err` only where memory runs out. which
-    /// the
-    /// traces of calls take.
+    /// is answered, no body is open and the next identifier is at most 2^63. `Err` only where memory runs out, which
+    /// the traces of calls take.
     pub fn new(alloc: Global, script: Script, levels: Levels<B>) -> Result<Core<B>, AllocError>
         requires { (f : Flat) × IsCoreStart script (system_of levels) f }
         ensures events { IfOk result (λ core. (f : Flat) → IsCoreStart script (system_of levels) f →

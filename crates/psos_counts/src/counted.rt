@@ -94,7 +94,7 @@ impl<V: Drop, C: Class<V>> Counted<V, C> {
         count_in(&self.counts, class)
     }
 
-    /// Puts a row under a new number. `Err` only where memory runs out. it drops the row and changes nothing.
+    /// Puts a row under a new number. `Err` only where memory runs out: it drops the row and changes nothing.
     pub fn put_new(&mut self, key: u64, row: V) -> Result<(), AllocError>
         requires { at self.old key ≡ None }
         ensures ok { OnOk result (self.new ≡ put self.old key row) }

@@ -29,7 +29,7 @@ pub(crate) fn count_in(counts: &Table<usize>, class: u64) -> usize
     }
 }
 
-/// One row more of a class. `Err` only where memory runs out. and changes nothing.
+/// One row more of a class. `Err` only where memory runs out, and changes nothing.
 pub(crate) fn count_up(counts: &mut Table<usize>, class: u64) -> Result<(), AllocError>
     requires { count_in counts.old class + 1 < 2 ^ 64 }
     ensures ok { OnOk result (counts.new ≡ put counts.old class (count_in counts.old class + 1)) }

@@ -33,7 +33,7 @@ fn put_restrict(alloc: Global, out: &mut Vec<u8>, x: u16) -> Result<(), AllocErr
 }
 
 /// Appends the request line of a value that was drawn. The value's low three bits choose the request, and the others a
-/// word of 64 or one of twenty names. `Err` only where memory runs out. and a piece of the line may stand in `out`
+/// word of 64 or one of twenty names. `Err` only where memory runs out, and a piece of the line may stand in `out`
 /// then.
 #[tactic(auto, using(std::proofs::lemmas::List::append_assoc))]
 pub(crate) fn put_line(alloc: Global, out: &mut Vec<u8>, x: u16) -> Result<(), AllocError>

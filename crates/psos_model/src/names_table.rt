@@ -63,9 +63,8 @@ impl NamesTable {
         Ok(names)
     }
 
-    /// An entry comes, in the place of the one of this name. `Err` only where memory runs out. which only a new name
-    /// takes;
-    /// it changes nothing.
+    /// An entry comes, in the place of the one of this name. `Err` only where memory runs out, which only a new name
+    /// takes; it changes nothing.
     pub fn put(&mut self, name: Name, named: Named) -> Result<(), AllocError>
         ensures ok { OnOk result (self.new ≡ map.insert self.old name named) }
         ensures err { OnErr result (self.new ≡ self.old) }

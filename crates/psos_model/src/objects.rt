@@ -59,9 +59,8 @@ impl Objects {
         false
     }
 
-    /// Puts an object under an identifier, in the place of the one there. `Err` only where memory runs out. which only
-    /// a new
-    /// identifier takes; it changes nothing.
+    /// Puts an object under an identifier, in the place of the one there. `Err` only where memory runs out, which only
+    /// a new identifier takes; it changes nothing.
     pub fn put(&mut self, uid: u64, object: Object) -> Result<(), AllocError>
         ensures ok { OnOk result (self.new ≡ put self.old uid object) }
         ensures err { OnErr result (self.new ≡ self.old) }

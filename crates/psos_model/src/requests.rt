@@ -22,7 +22,7 @@ use crate::{Flat, Outcome};
 use psos_calls::{Private, Request};
 use std::alloc::{AllocError, Global};
 
-/// What a request of a user does. `Err` only where memory runs out. which only the names of a `list` take.
+/// What a request of a user does. `Err` only where memory runs out, which only the names of a `list` take.
 pub(crate) fn outcome_of(
     alloc: Global,
     flat: &Flat,

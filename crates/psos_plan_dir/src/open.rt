@@ -109,7 +109,7 @@ impl<'a> Open<'a> {
         none_used(self.calls)
     }
 
-    /// The names of its entries, in the order of their bytes. `Err` only where memory runs out. and leaves nothing
+    /// The names of its entries, in the order of their bytes. `Err` only where memory runs out, and leaves nothing
     /// behind.
     pub fn names(&self, alloc: Global) -> Result<Names, AllocError>
         ensures { IfOk result (λ names. names ≡ names_of (entries_in self.now.slots)) }

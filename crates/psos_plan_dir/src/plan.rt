@@ -15,10 +15,9 @@ use crate::spaces::{next_find, next_path};
 use psos_calls::{Next, Private, Request, Trace};
 use std::alloc::{AllocError, Global};
 
-/// What the plan of a request does after its calls so far (docs/requests.md, "Plans"): the next call, or the close.
-/// The request is one of directories and name spaces, and the trace is a front of a run of its plan from levels in
-/// which each live directory has an entry list. `Err` only where memory runs out. and comes only where `list` closes
-/// with its
+/// What the plan of a request does after its calls so far (docs/requests.md, "Plans"): the next call, or the close. The
+/// request is one of directories and name spaces, and the trace is a front of a run of its plan from levels in which
+/// each live directory has an entry list. `Err` only where memory runs out, and comes only where `list` closes with its
 /// names.
 pub fn next(alloc: Global, req: &Request, me: &Private, trace: &Trace) -> Result<Next, AllocError>
     requires kind { IsOfDirectories req.now }

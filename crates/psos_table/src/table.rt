@@ -54,8 +54,8 @@ impl<V: Drop> Table<V> {
         self.rows.contains_key(&key)
     }
 
-    /// Puts a row under a number, in the place of the row there. `Err` only where memory runs out. which only a
-    /// new number takes; it drops the value and changes nothing.
+    /// Puts a row under a number, in the place of the row there. `Err` only where memory runs out, which only a new
+    /// number takes; it drops the value and changes nothing.
     pub fn put(&mut self, key: u64, value: V) -> Result<(), AllocError>
         ensures ok { OnOk result (self.new ≡ put self.old key value) }
         ensures err { OnErr result (self.new ≡ self.old) }

@@ -22,7 +22,7 @@ fn rest(alloc: Global, args: Args) -> Result<Vec<String>, AllocError>
 }
 
 /// The words of the command line: the arguments behind the program's own name, in their order. Arguments that the
-/// system cannot tell, such as bytes that are no text, are no words. `Err` only where memory runs out. here or in the
+/// system cannot tell, such as bytes that are no text, are no words. `Err` only where memory runs out, here or in the
 /// system.
 pub(crate) fn words_of(alloc: Global, args: io::Result<Args>) -> Result<Vec<String>, AllocError>
     ensures words { IfOk result (λ words. map string_bytes words.items ≡ words_in args) }
