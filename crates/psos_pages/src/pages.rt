@@ -26,6 +26,7 @@ pub struct Pages<B: Store> {
 
 impl<B: Store> Model for Pages<B> {
     ghost use Rattle.std.specs.Prelude.{◌≤◌, vec_capacity};
+    ghost use Rattle.psos_limits.specs.declared.TheConstants.{SLOTS};
     ghost use Rattle.psos_pages.specs.State.{PagesState};
     ghost use Rattle.psos_pages.specs.SlotViews.{AreThere, slots_of};
 
