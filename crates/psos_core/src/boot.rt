@@ -26,7 +26,7 @@ use psos_dirs::Dirs;
 use psos_io::Store;
 use psos_life::Life;
 use psos_limits::MOST_WORDS;
-use psos_model::{boot_user, home_of, home_rep_of, scratch_of};
+use psos_model::{boot_user, scratch_of};
 use psos_pages::Pages;
 use psos_procs::Procs;
 use psos_segs::Segs;
@@ -198,7 +198,7 @@ fn boot_reps(alloc: Global, i: u8, texts: &[UserText]) -> Result<Segs, AllocErro
         return Ok(segs);
     };
     let mut segs = boot_reps(alloc, i + 1, rest)?;
-    let uid = home_rep_of(u64::from(i));
+    let uid = 5 + 4 * u64::from(i);
     make_segment(
         &mut segs,
         alloc,
@@ -219,7 +219,7 @@ fn boot_segs(alloc: Global, all: &[UserText], i: u8, texts: &[UserText]) -> Resu
         return boot_reps(alloc, 0, all);
     };
     let mut segs = boot_segs(alloc, all, i + 1, rest)?;
-    let uid = scratch_of(u64::from(i));
+    let uid = 6 + 4 * u64::from(i);
     make_segment(&mut segs, alloc, uid, 2 + 2 * u16::from(i), 64)?;
     Ok(segs)
 }
@@ -254,7 +254,7 @@ fn boot_types(alloc: Global, i: u8, texts: &[UserText]) -> Result<Types, AllocEr
         return Ok(types);
     };
     let mut types = boot_types(alloc, i + 1, rest)?;
-    let uid = home_of(u64::from(i));
+    let uid = 4 + 4 * u64::from(i);
     make_object(&mut types, alloc, uid, uid + 1)?;
     Ok(types)
 }
@@ -285,7 +285,7 @@ fn boot_dirs(alloc: Global, i: u8, texts: &[UserText]) -> Result<Dirs, AllocErro
         return Ok(dirs);
     };
     let mut dirs = boot_dirs(alloc, i + 1, rest)?;
-    make_directory(&mut dirs, alloc, home_of(u64::from(i)))?;
+    make_directory(&mut dirs, alloc, 4 + 4 * u64::from(i))?;
     Ok(dirs)
 }
 
@@ -298,7 +298,7 @@ fn boot_life(alloc: Global, i: u8, texts: &[UserText]) -> Result<Life, AllocErro
         return Life::new(alloc);
     };
     let mut life = boot_life(alloc, i + 1, rest)?;
-    enrol(&mut life, alloc, scratch_of(u64::from(i)))?;
+    enrol(&mut life, alloc, 6 + 4 * u64::from(i))?;
     Ok(life)
 }
 
