@@ -1,11 +1,8 @@
-//! Runs the command `serial` on one script with a source that fails in each of its calls in turn, and then with such a
-//! sink, and prints how each run ends. Behind them are runs over a reader and a writer of std, which fail or do not.
+//! Runs the command `serial` on one script with a source that fails in each of its calls in turn, and then with such a sink, and
+//! prints how each run ends.
 #![tactic(auto)]
 
-mod halting;
-
-use halting::Halting;
-use psos_io::{MemSink, MemSource, NoStore, Sink, Source, StdSink, StdSource, put_all};
+use psos_io::{MemSink, MemSource, NoStore, StdSink, put_all};
 use psos_text::put_number;
 use psos_top::{Outcome, serial_call};
 use std::alloc::{AllocError, Global};
@@ -77,57 +74,6 @@ fn write_fails(alloc: Global, out: &mut Vec<u8>, call: u64) -> Result<(), AllocE
     put_end(alloc, out, &outcome, output.bytes())
 }
 
-// The run over a reader of std that passes so many calls on.
-fn reader_halts(alloc: Global, out: &mut Vec<u8>, calls: u64) -> Result<(), AllocError> {
-    let mut input = StdSource::new(Halting::new(SCRIPT, calls));
-    let mut output = MemSink::new(4, Vec::new(alloc));
-    output.reserve(alloc, 1000)?;
-    let outcome = serial_call(alloc, 32, &mut input, &mut output, NoStore::new());
-    put(alloc, out, b"std reader, calls ", calls)?;
-    put(alloc, out, b", faults ", input.faults())?;
-    put_end(alloc, out, &outcome, output.bytes())
-}
-
-// The run over a writer of std that passes so many calls on.
-fn writer_halts(alloc: Global, out: &mut Vec<u8>, calls: u64) -> Result<(), AllocError> {
-    let mut input = MemSource::new(SCRIPT.to_vec(alloc)?, 4, Vec::new(alloc));
-    let mut output = StdSink::new(Halting::new(Vec::new(alloc), calls));
-    let outcome = serial_call(alloc, 32, &mut input, &mut output, NoStore::new());
-    put(alloc, out, b"std writer, calls ", calls)?;
-    put(alloc, out, b", faults ", output.faults())?;
-    put_end(alloc, out, &outcome, b"")
-}
-
-// A reader gives its bytes and then none, and a writer takes them; neither fails.
-fn put_calls(alloc: Global, out: &mut Vec<u8>) -> Result<(), AllocError> {
-    let mut input = StdSource::new(b"ab".as_slice());
-    let mut output = StdSink::new(Vec::new(alloc));
-    let mut buf = [0u8; 4];
-    put(
-        alloc,
-        out,
-        b"std reader gives ",
-        input.read(&mut buf).unwrap_or(9) as u64,
-    )?;
-    put(
-        alloc,
-        out,
-        b", then ",
-        input.read(&mut buf).unwrap_or(9) as u64,
-    )?;
-    put(alloc, out, b", faults ", input.faults())?;
-    out.extend_from_slice(b": ")?;
-    out.extend_from_slice(&buf[..2])?;
-    put(
-        alloc,
-        out,
-        b"\nstd writer takes ",
-        output.write(b"ab").unwrap_or(9) as u64,
-    )?;
-    put(alloc, out, b", faults ", output.faults())?;
-    out.extend_from_slice(b"\n")
-}
-
 // All runs.
 fn runs(alloc: Global) -> Result<Vec<u8>, AllocError> {
     let mut out = Vec::new(alloc);
@@ -137,13 +83,6 @@ fn runs(alloc: Global) -> Result<Vec<u8>, AllocError> {
     'writes: for call in 1..WRITES + 1 {
         write_fails(alloc, &mut out, call)?;
     }
-    reader_halts(alloc, &mut out, 0)?;
-    reader_halts(alloc, &mut out, 5)?;
-    reader_halts(alloc, &mut out, READS)?;
-    writer_halts(alloc, &mut out, 0)?;
-    writer_halts(alloc, &mut out, 5)?;
-    writer_halts(alloc, &mut out, WRITES)?;
-    put_calls(alloc, &mut out)?;
     Ok(out)
 }
 
