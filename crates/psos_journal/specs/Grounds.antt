@@ -4,10 +4,7 @@ use Rattle.std.specs.declared.option.Option.{Option}
 use Rattle.logbook.specs.Pages.{Book, Named, Nib, nib, may_write}
 use Rattle.psos_journal.specs.Cells.{count_word, entries_in}
 
--- no entry was added, and the pen may fill the first entry's cell
-abbrev pub IsNotBegun : {A : Type 0} → Named → Book → Nib → Book → List (Option A) → Type 0
-IsNotBegun count pen_book pen_nib book log = (count ≡ count_word book) × (pen_book ≡ book) × (pen_nib ≡ nib may_write 2 0) × (entries_in log ≡ [])
-
--- a part of the ledger of told members for each that there may be, one part of that of store faults, and both limits
-abbrev pub IsWithinLimits : ℕ → ℕ → ℕ → ℕ → Type 0
-IsWithinLimits told_parts faults_parts members room = (told_parts ≡ 24) × (faults_parts ≡ 1) × (members ≤ 24) × (room ≤ 32768)
+-- no entry was added, and the pen may fill the first entry's cell; the ledger of told members has a part for each that
+-- there may be, that of store faults one; and both limits
+abbrev pub IsGround : {A : Type 0} → Named → Book → Nib → Book → List (Option A) → ℕ → ℕ → ℕ → ℕ → Type 0
+IsGround count pen_book pen_nib book log told_parts faults_parts members room = (count ≡ count_word book) × (pen_book ≡ book) × (pen_nib ≡ nib may_write 2 0) × (entries_in log ≡ []) × (told_parts ≡ 24) × (faults_parts ≡ 1) × (members ≤ 24) × (room ≤ 32768)

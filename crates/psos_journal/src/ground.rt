@@ -27,14 +27,14 @@ pub struct Ground<E> {
 
 impl<E> Model for Ground<E> {
     ghost use Rattle.psos_journal.specs.Counts.{names_of};
-    ghost use Rattle.psos_journal.specs.Grounds.{IsNotBegun, IsWithinLimits};
+    ghost use Rattle.psos_journal.specs.Grounds.{IsGround};
     ghost use Rattle.psos_journal.specs.Views.{Ready};
 
     ghost Value = { Ready };
 
     ghost view = { λ g. record { members = g.members; room = g.room; book = g.seen.book; counts = names_of g.counts; told = g.told.name; faults = g.faults.name } };
 
-    ghost invariant = { λ g. IsNotBegun g.count g.next.book g.next.nib g.seen.book g.seen.log × IsWithinLimits g.told.parts g.faults.parts g.members g.room };
+    ghost invariant = { λ g. IsGround g.count g.next.book g.next.nib g.seen.book g.seen.log g.told.parts g.faults.parts g.members g.room };
 }
 
 impl<E> Ground<E> {
