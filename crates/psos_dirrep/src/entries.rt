@@ -152,16 +152,7 @@ impl<'a> Entries127<'a> {
 fn read_entry(a: Word, b: Word, c: Word, d: Word) -> Option<DirEntry>
     ensures { result ≡ read_entry a b c d }
 {
-    let Word::Data(mark) = a else {
-        return None;
-    };
-    let Word::Data(high) = b else {
-        return None;
-    };
-    let Word::Data(low) = c else {
-        return None;
-    };
-    let Word::Cap(cap) = d else {
+    let (Word::Data(mark), Word::Data(high), Word::Data(low), Word::Cap(cap)) = (a, b, c, d) else {
         return None;
     };
     match filled(high, low) {

@@ -3,7 +3,7 @@ ghost use Rattle.std.specs.Prelude.{◌≡◌, ◌+◌, ◌*◌, ◌<◌, ◌≤
 ghost use Rattle.std.specs.List.{list_any};
 ghost use Rattle.psos_words.specs.Directory.{slot_of, slots_of, is_filled_name, name_from, are_apart, has_name, decode};
 ghost use Rattle.psos_dirrep.specs.EntryLists.{ends_never};
-ghost use Rattle.psos_dirrep.specs.Lists.{order_from, used_halves, is_named, FromSlot};
+ghost use Rattle.psos_dirrep.specs.Lists.{order_from, used_halves, halves_at, is_named, FromSlot};
 ghost use Rattle.psos_dirrep.specs.Pages.{words_of, slots_in, ArePages};
 
 use crate::flat::word_of;
@@ -15,26 +15,12 @@ use psos_words::{Page, Word};
 fn is_slot(a: Word, b: Word, c: Word, d: Word) -> bool
     ensures { result ≡ is_some (slot_of a b c d) }
 {
-    let Word::Data(mark) = a else {
-        return false;
-    };
-    let Word::Data(high) = b else {
-        return false;
-    };
-    let Word::Data(low) = c else {
+    let (Word::Data(mark), Word::Data(high), Word::Data(low)) = (a, b, c) else {
         return false;
     };
     match d {
         Word::Data(n) => high == 0 && low == 0 && n == 0 && (mark == 0 || mark == 3),
-        Word::Cap(_) => {
-            if mark == 1 {
-                return is_filled(high, low);
-            }
-            if mark == 2 {
-                return is_filled(high, low);
-            }
-            false
-        }
+        Word::Cap(_) => (mark == 1 || mark == 2) && is_filled(high, low),
     }
 }
 
@@ -83,12 +69,7 @@ pub(crate) fn are_apart(pages: &[Page], g: usize) -> bool
     if g >= 16 * pages.len() {
         return true;
     }
-    let (a, b, c) = (
-        word_of(pages, 4 * g),
-        word_of(pages, 4 * g + 1),
-        word_of(pages, 4 * g + 2),
-    );
-    match used_halves(a, b, c) {
+    match halves_at(pages, g) {
         Some((high, low)) => {
             if has_later(pages, g + 1, high, low) {
                 return false;
@@ -108,12 +89,7 @@ fn has_later(pages: &[Page], g: usize, high: u64, low: u64) -> bool
     if g >= 16 * pages.len() {
         return false;
     }
-    let (a, b, c) = (
-        word_of(pages, 4 * g),
-        word_of(pages, 4 * g + 1),
-        word_of(pages, 4 * g + 2),
-    );
-    if is_named(a, b, c, high, low) {
+    if is_named(halves_at(pages, g), high, low) {
         return true;
     }
     has_later(pages, g + 1, high, low)
@@ -123,13 +99,7 @@ fn has_later(pages: &[Page], g: usize, high: u64, low: u64) -> bool
 fn used_halves(a: Word, b: Word, c: Word) -> Option<(u64, u64)>
     ensures { result ≡ used_halves a b c }
 {
-    let Word::Data(mark) = a else {
-        return None;
-    };
-    let Word::Data(high) = b else {
-        return None;
-    };
-    let Word::Data(low) = c else {
+    let (Word::Data(mark), Word::Data(high), Word::Data(low)) = (a, b, c) else {
         return None;
     };
     if mark == 1 || mark == 2 {
@@ -139,11 +109,24 @@ fn used_halves(a: Word, b: Word, c: Word) -> Option<(u64, u64)>
     }
 }
 
-// Whether a slot is used and has the name with these two numbers.
-fn is_named(a: Word, b: Word, c: Word, high: u64, low: u64) -> bool
-    ensures { result ≡ is_named (used_halves a b c) high low }
+// The two numbers of the name in slot g, if that is used.
+fn halves_at(pages: &[Page], g: usize) -> Option<(u64, u64)>
+    requires from { FromSlot pages.now g }
+    requires within { g < 16 * length pages.now }
+    ensures { result ≡ halves_at pages.now g }
 {
-    match used_halves(a, b, c) {
+    used_halves(
+        word_of(pages, 4 * g),
+        word_of(pages, 4 * g + 1),
+        word_of(pages, 4 * g + 2),
+    )
+}
+
+// Whether a slot is used and has the name with these two numbers.
+fn is_named(halves: Option<(u64, u64)>, high: u64, low: u64) -> bool
+    ensures { result ≡ is_named halves high low }
+{
+    match halves {
         Some((h, l)) => h == high && l == low,
         None => false,
     }

@@ -95,20 +95,9 @@ impl Origins {
         requires user { user < 8 }
         ensures { (y : User) → slice_get flat.now.users user ≡ Some y → AddsArrivals coming user y self.old self.new }
     {
-        if let Some(me) = flat.users.get(user) {
-            self.keep_one(coming, user, me);
-        }
-    }
-
-    fn keep_one(&mut self, coming: Coming, user: u8, me: &Private)
-        requires past { vec_len self.old.past < vec_capacity self.old.past }
-        requires list { vec_len coming.arrivals.list < vec_capacity coming.arrivals.list }
-        requires bodies { coming.bodies ≤ 4 }
-        requires opened { coming.opened ≤ 5 }
-        requires callers { length self.old.callers.items ≡ 32 }
-        requires user { user < 8 }
-        ensures { AddsArrivals coming user me.now self.old self.new }
-    {
+        let Some(me) = flat.users.get(user) else {
+            return;
+        };
         let bodies = coming.bodies;
         let caller = coming.caller;
         self.past.push_reserved(closed(coming, me));

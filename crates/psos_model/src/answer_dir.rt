@@ -9,12 +9,13 @@ ghost use Rattle.psos_model.specs.Answer.Outcomes.{gives, by};
 ghost use Rattle.psos_model.specs.Answer.Directories.{answer_lookup, answer_bind, answer_unbind, answer_list, answer_path, answer_find, find_in};
 ghost use Rattle.psos_model.specs.Flat.Within.{found_in};
 
+use crate::access::{directory_by, no_entry};
 use crate::guards::barred;
 use crate::outcome::{by, does, gives, own, refuse, reg_place};
 use crate::{Change, ChangeList, Flat, Outcome, Place};
-use psos_calls::{Effect, Kind, Path, Private, Refusal, Reply, Right, Tab, has};
+use psos_calls::{Effect, Path, Private, Refusal, Reply, Right, Tab, has};
 use psos_caps::Cap;
-use psos_limits::{MOST_ENTRIES, MOST_PATH};
+use psos_limits::MOST_PATH;
 use psos_text::Name;
 use psos_words::Word;
 use std::alloc::{AllocError, Global};
@@ -27,12 +28,10 @@ pub(crate) fn answer_lookup(flat: &Flat, me: &Private, rd: u8, rs: u8, name: Nam
     let Word::Cap(cap) = me.here(rs) else {
         return refuse(Refusal::NotCap);
     };
-    let Some(dir) = flat.dirs.get(cap.uid().0) else {
-        return refuse(Refusal::Absent(Kind::Directory));
+    let dir = match directory_by(flat, cap, Right::Lookup) {
+        Ok(dir) => dir,
+        Err(refusal) => return refuse(refusal),
     };
-    if !has(cap, Right::Lookup) {
-        return refuse(Refusal::Lacks(Right::Lookup));
-    }
     let Some(entry) = dir.names.get(&name) else {
         return refuse(Refusal::UnknownName);
     };
@@ -68,20 +67,15 @@ pub(crate) fn answer_bind(flat: &Flat, me: &Private, rs: u8, name: Name, rv: u8)
     let Word::Cap(value) = me.here(rv) else {
         return refuse(Refusal::NotCap);
     };
-    let Some(dir) = flat.dirs.get(cap.uid().0) else {
-        return refuse(Refusal::Absent(Kind::Directory));
+    let dir = match directory_by(flat, cap, Right::Bind) {
+        Ok(dir) => dir,
+        Err(refusal) => return refuse(refusal),
     };
-    if !has(cap, Right::Bind) {
-        return refuse(Refusal::Lacks(Right::Bind));
-    }
     if let Some(bit) = barred(dir.guard, Word::Cap(value)) {
         return refuse(Refusal::Guarded(bit));
     }
-    if dir.names.get(&name).is_some() {
-        return refuse(Refusal::NameTaken);
-    }
-    if dir.names.len() >= MOST_ENTRIES {
-        return refuse(Refusal::Exhausted(Tab::Entries));
+    if let Some(refusal) = no_entry(dir, &name) {
+        return refuse(refusal);
     }
     does(
         ChangeList::one(Change::Bind {
@@ -101,12 +95,10 @@ pub(crate) fn answer_unbind(flat: &Flat, me: &Private, rs: u8, name: Name) -> Ou
     let Word::Cap(cap) = me.here(rs) else {
         return refuse(Refusal::NotCap);
     };
-    let Some(dir) = flat.dirs.get(cap.uid().0) else {
-        return refuse(Refusal::Absent(Kind::Directory));
+    let dir = match directory_by(flat, cap, Right::Unbind) {
+        Ok(dir) => dir,
+        Err(refusal) => return refuse(refusal),
     };
-    if !has(cap, Right::Unbind) {
-        return refuse(Refusal::Lacks(Right::Unbind));
-    }
     let Some(entry) = dir.names.get(&name) else {
         return refuse(Refusal::UnknownName);
     };
@@ -136,12 +128,10 @@ pub(crate) fn answer_list(
     let Word::Cap(cap) = me.here(rs) else {
         return Ok(refuse(Refusal::NotCap));
     };
-    let Some(dir) = flat.dirs.get(cap.uid().0) else {
-        return Ok(refuse(Refusal::Absent(Kind::Directory)));
+    let dir = match directory_by(flat, cap, Right::List) {
+        Ok(dir) => dir,
+        Err(refusal) => return Ok(refuse(refusal)),
     };
-    if !has(cap, Right::List) {
-        return Ok(refuse(Refusal::Lacks(Right::List)));
-    }
     let names = dir.names.keys(alloc)?;
     Ok(Outcome {
         changes: ChangeList::none(),
@@ -162,11 +152,8 @@ pub(crate) fn answer_path(flat: &Flat, me: &Private, rs: u8) -> Outcome
     if me.path().len() >= MOST_PATH {
         return refuse(Refusal::Exhausted(Tab::Path));
     }
-    if flat.dirs.get(cap.uid().0).is_none() {
-        return refuse(Refusal::Absent(Kind::Directory));
-    }
-    if !has(cap, Right::Lookup) {
-        return refuse(Refusal::Lacks(Right::Lookup));
+    if let Err(refusal) = directory_by(flat, cap, Right::Lookup) {
+        return refuse(refusal);
     }
     Outcome {
         changes: ChangeList::none(),

@@ -9,13 +9,14 @@ ghost use Rattle.psos_model.specs.Answer.Objects.{makes, drops, answer_impl, ans
 ghost use Rattle.psos_model.specs.Flat.Safe.{is_making, is_sure};
 ghost use Rattle.psos_model.specs.Flat.Within.{unless};
 
+use crate::access::{directory_by, no_entry};
 use crate::guards::barred;
 use crate::issue::full;
 use crate::outcome::{by, does, gives, own, refuse, reg_place};
 use crate::{Change, ChangeList, Flat, Object, Outcome, Place};
 use psos_calls::{CodeRow, Kind, Private, Refusal, Right, Tab, has};
 use psos_caps::{Cap, Rights};
-use psos_limits::{MOST_ENTRIES, MOST_OBJECTS, MOST_WORDS};
+use psos_limits::{MOST_OBJECTS, MOST_WORDS};
 use psos_text::Name;
 use psos_words::Word;
 
@@ -154,23 +155,18 @@ pub(crate) fn answer_mkobj(
     if flat.life.len() >= MOST_OBJECTS {
         return refuse(Refusal::Exhausted(Tab::Objects));
     }
-    let Some(directory) = flat.dirs.get(dir.uid().0) else {
-        return refuse(Refusal::Absent(Kind::Directory));
+    let directory = match directory_by(flat, dir, Right::Create) {
+        Ok(directory) => directory,
+        Err(refusal) => return refuse(refusal),
     };
-    if !has(dir, Right::Create) {
-        return refuse(Refusal::Lacks(Right::Create));
-    }
     if flat.types.get(of.uid().0).is_none() {
         return refuse(Refusal::Absent(Kind::Typ));
     }
     if !has(of, Right::Make) {
         return refuse(Refusal::Lacks(Right::Make));
     }
-    if directory.names.get(&name).is_some() {
-        return refuse(Refusal::NameTaken);
-    }
-    if directory.names.len() >= MOST_ENTRIES {
-        return refuse(Refusal::Exhausted(Tab::Entries));
+    if let Some(refusal) = no_entry(directory, &name) {
+        return refuse(refusal);
     }
     let object = Object {
         of: of.uid().0,
@@ -227,12 +223,10 @@ pub(crate) fn answer_delete(flat: &Flat, me: &Private, rs: u8, name: Name) -> Ou
     let Word::Cap(dir) = me.here(rs) else {
         return refuse(Refusal::NotCap);
     };
-    let Some(directory) = flat.dirs.get(dir.uid().0) else {
-        return refuse(Refusal::Absent(Kind::Directory));
+    let directory = match directory_by(flat, dir, Right::Delete) {
+        Ok(directory) => directory,
+        Err(refusal) => return refuse(refusal),
     };
-    if !has(dir, Right::Delete) {
-        return refuse(Refusal::Lacks(Right::Delete));
-    }
     let Some(entry) = directory.names.get(&name) else {
         return refuse(Refusal::UnknownName);
     };
@@ -296,19 +290,10 @@ fn no_room(flat: &Flat, dir: Cap, name: &Name) -> Option<Refusal>
     if flat.life.len() >= MOST_OBJECTS {
         return Some(Refusal::Exhausted(Tab::Objects));
     }
-    let Some(directory) = flat.dirs.get(dir.uid().0) else {
-        return Some(Refusal::Absent(Kind::Directory));
-    };
-    if !has(dir, Right::Create) {
-        return Some(Refusal::Lacks(Right::Create));
+    match directory_by(flat, dir, Right::Create) {
+        Ok(directory) => no_entry(directory, name),
+        Err(refusal) => Some(refusal),
     }
-    if directory.names.get(name).is_some() {
-        return Some(Refusal::NameTaken);
-    }
-    if directory.names.len() >= MOST_ENTRIES {
-        return Some(Refusal::Exhausted(Tab::Entries));
-    }
-    None
 }
 
 // A new user object whose identifier is the next.

@@ -6,11 +6,12 @@ ghost use Rattle.psos_model.specs.Answer.Segments.{answer_mint, answer_restrict,
 ghost use Rattle.psos_calls.specs.Language.Views.{fits_in, part_of};
 ghost use Rattle.psos_model.specs.Flat.Within.{IsWithin, as_view};
 
+use crate::access::view_by;
 use crate::guards::barred;
 use crate::issue::{capability, full};
 use crate::outcome::{by, does, gives, own, refuse, reg_place};
 use crate::{Change, ChangeList, Flat, FlatView, Outcome, Place};
-use psos_calls::{Kind, Private, Refusal, Right, Tab, WinRow, has};
+use psos_calls::{Private, Refusal, Right, Tab, WinRow};
 use psos_caps::{Rights, Uid};
 use psos_limits::MOST_WINDOWS;
 use psos_words::Word;
@@ -86,12 +87,10 @@ pub(crate) fn answer_read(flat: &Flat, me: &Private, rd: u8, rs: u8, n: u64) -> 
     let Word::Cap(cap) = me.here(rs) else {
         return refuse(Refusal::NotCap);
     };
-    let Some(view) = flat.view(cap.uid().0) else {
-        return refuse(Refusal::Absent(Kind::Segment));
+    let view = match view_by(flat, cap, Right::Read) {
+        Ok(view) => view,
+        Err(refusal) => return refuse(refusal),
     };
-    if !has(cap, Right::Read) {
-        return refuse(Refusal::Lacks(Right::Read));
-    }
     if n >= view.len {
         return refuse(Refusal::Range);
     }
@@ -118,12 +117,10 @@ pub(crate) fn answer_write(flat: &Flat, me: &Private, rs: u8, n: u64, rv: u8) ->
     let Word::Cap(cap) = me.here(rs) else {
         return refuse(Refusal::NotCap);
     };
-    let Some(view) = flat.view(cap.uid().0) else {
-        return refuse(Refusal::Absent(Kind::Segment));
+    let view = match view_by(flat, cap, Right::Write) {
+        Ok(view) => view,
+        Err(refusal) => return refuse(refusal),
     };
-    if !has(cap, Right::Write) {
-        return refuse(Refusal::Lacks(Right::Write));
-    }
     if n >= view.len {
         return refuse(Refusal::Range);
     }
@@ -157,12 +154,10 @@ pub(crate) fn answer_window(
     let Word::Cap(cap) = me.here(rs) else {
         return refuse(Refusal::NotCap);
     };
-    let Some(view) = flat.view(cap.uid().0) else {
-        return refuse(Refusal::Absent(Kind::Segment));
+    let view = match view_by(flat, cap, Right::Window) {
+        Ok(view) => view,
+        Err(refusal) => return refuse(refusal),
     };
-    if !has(cap, Right::Window) {
-        return refuse(Refusal::Lacks(Right::Window));
-    }
     if !fits_in(&view, base, len) {
         return refuse(Refusal::Range);
     }
@@ -192,12 +187,10 @@ pub(crate) fn answer_length(flat: &Flat, me: &Private, rd: u8, rs: u8) -> Outcom
     let Word::Cap(cap) = me.here(rs) else {
         return refuse(Refusal::NotCap);
     };
-    let Some(view) = flat.view(cap.uid().0) else {
-        return refuse(Refusal::Absent(Kind::Segment));
+    let view = match view_by(flat, cap, Right::Read) {
+        Ok(view) => view,
+        Err(refusal) => return refuse(refusal),
     };
-    if !has(cap, Right::Read) {
-        return refuse(Refusal::Lacks(Right::Read));
-    }
     gives(ChangeList::none(), rd, Word::Data(view.len), None)
 }
 

@@ -80,17 +80,9 @@ impl ChangeList {
         requires { is_making making ≡ true }
         ensures { result ≡ making ∷ Register uid dir name kind ∷ Fresh ∷ Fresh ∷ [] }
     {
-        let mut list = ArrayVec::new();
-        list.push(making);
-        list.push(Change::Register {
-            uid,
-            dir,
-            name,
-            kind,
-        });
-        list.push(Change::Fresh);
-        list.push(Change::Fresh);
-        ChangeList { list }
+        let mut made = ChangeList::made(making, uid, dir, name, kind);
+        made.list.push(Change::Fresh);
+        made
     }
 
     /// All of them, in order.

@@ -3,6 +3,7 @@
 //! The definitions are in specs/. The program here does what they say, slowly and plainly.
 #![tactic(auto)]
 
+mod access;
 mod answer_dir;
 mod answer_life;
 mod answer_proc;

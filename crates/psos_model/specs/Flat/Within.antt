@@ -1,6 +1,6 @@
 -- Words that lie where they should, and the views of code.
 use Rattle.std.specs.Option.{option_map}
-use Rattle.std.specs.Prelude.{None, Option, ◌≡◌, ℕ, ◌+◌, ◌≤◌, length, Some}
+use Rattle.std.specs.Prelude.{None, Option, ◌≡◌, ℕ, ◌+◌, ◌≤◌, length, Some, Result, Ok, Err}
 use Rattle.psos_limits.specs.declared.TheConstants.{MOST_WORDS, MOST_LINES}
 use Rattle.psos_table.specs.Table.{at}
 use Rattle.psos_caps.specs.Capability.{Capability}
@@ -37,3 +37,8 @@ found_in f dir name = if_there (at f.dirs dir.uid) None (λ d. if_holds (has dir
 abbrev pub unless : Option Refusal → Outcome → Outcome
 unless None go = go
 unless (Some r) go = refuse r
+
+-- what goes on with what was found, or a refusal
+abbrev pub or_refuse : {X : Type 0} → Result X Refusal → (X → Outcome) → Outcome
+or_refuse (Ok x) go = go x
+or_refuse (Err r) go = refuse r

@@ -1,7 +1,7 @@
 use Rattle.std.proofs.Common.{◌+◌, ◌&&◌, not, Bool, ap, sym, ◌∙◌, arith}
 use Rattle.psos_words.specs.Directory.{are_apart}
 use Rattle.psos_dirrep.proofs.SlotSteps.{next-slot}
-use Rattle.psos_dirrep.proofs.ListSteps.{SlotsFrom, none-from, slots-after, halves-read, apart-step_used, apart-step_none}
+use Rattle.psos_dirrep.proofs.ListSteps.{SlotsFrom, none-from, slots-after, apart-step_used, apart-step_none}
 use Rattle.psos_dirrep.proofs.lists.+are_apart.Goals as goal
 
 pub returns-then-g-pages : goal.returns-then-g-pages
@@ -19,16 +19,14 @@ are_apart-requires-in-None t c = (omega arith, (next-slot c.args.pages.now c.arg
 pub returns-then-has_later : goal.returns-then-has_later
 returns-then-has_later t c =
     let pages = c.args.pages.now in
-    let read = halves-read pages c.args.g c.word_of-a.result c.word_of-b.result c.word_of-c.result c.word_of-a.ensures c.word_of-b.ensures c.word_of-c.ensures in
-    let is = sym read ∙ (sym c.used_halves.ensures ∙ c.in-Some.is) in
+    let is = sym c.halves_at.ensures ∙ c.in-Some.is in
     sym (apart-step_used pages c.args.g (c.in-Some.high, c.in-Some.low) c.requires.from (omega arith) c.requires.slots is
     ∙ ap (λ (b : Bool). not b && are_apart (SlotsFrom pages (c.args.g + 1))) (sym c.has_later.ensures ∙ c.if-has_later.true))
 
 pub returns-else-has_later : goal.returns-else-has_later
 returns-else-has_later t c =
     let pages = c.args.pages.now in
-    let read = halves-read pages c.args.g c.word_of-a.result c.word_of-b.result c.word_of-c.result c.word_of-a.ensures c.word_of-b.ensures c.word_of-c.ensures in
-    let is = sym read ∙ (sym c.used_halves.ensures ∙ c.in-Some.is) in
+    let is = sym c.halves_at.ensures ∙ c.in-Some.is in
     c.are_apart.ensures
     ∙ sym (apart-step_used pages c.args.g (c.in-Some.high, c.in-Some.low) c.requires.from (omega arith) c.requires.slots is
     ∙ ap (λ (b : Bool). not b && are_apart (SlotsFrom pages (c.args.g + 1))) (sym c.has_later.ensures ∙ c.if-has_later.false))
@@ -36,6 +34,5 @@ returns-else-has_later t c =
 pub returns-in-None : goal.returns-in-None
 returns-in-None t c =
     let pages = c.args.pages.now in
-    let read = halves-read pages c.args.g c.word_of-a.result c.word_of-b.result c.word_of-c.result c.word_of-a.ensures c.word_of-b.ensures c.word_of-c.ensures in
-    let is = sym read ∙ (sym c.used_halves.ensures ∙ c.in-None.is) in
+    let is = sym c.halves_at.ensures ∙ c.in-None.is in
     c.are_apart-in-None.ensures ∙ sym (apart-step_none pages c.args.g c.requires.from (omega arith) c.requires.slots is)

@@ -3,7 +3,7 @@ use Rattle.std.specs.List.{list_any}
 use Rattle.psos_words.specs.Directory.{has_name, name_from}
 use Rattle.psos_dirrep.specs.Lists.{is_named}
 use Rattle.psos_dirrep.proofs.SlotSteps.{next-slot}
-use Rattle.psos_dirrep.proofs.ListSteps.{SlotsFrom, none-from, slots-after, halves-read, any-from}
+use Rattle.psos_dirrep.proofs.ListSteps.{SlotsFrom, none-from, slots-after, any-from}
 use Rattle.psos_dirrep.proofs.lists.+has_later.Goals as goal
 
 pub returns-then-g-pages : goal.returns-then-g-pages
@@ -12,8 +12,7 @@ returns-then-g-pages t c = sym (ap (list_any (has_name (name_from c.args.high c.
 pub returns-then-is_named : goal.returns-then-is_named
 returns-then-is_named t c =
     let rest = list_any (has_name (name_from c.args.high c.args.low)) (SlotsFrom c.args.pages.now (c.args.g + 1)) in
-    let read = halves-read c.args.pages.now c.args.g c.word_of-a.result c.word_of-b.result c.word_of-c.result c.word_of-a.ensures c.word_of-b.ensures c.word_of-c.ensures in
-    let is = ap (λ (o : Option (ℕ × ℕ)). is_named o c.args.high c.args.low) (sym read) ∙ sym c.is_named.ensures ∙ c.if-is_named.true in
+    let is = ap (λ (o : Option (ℕ × ℕ)). is_named o c.args.high c.args.low) (sym c.halves_at.ensures) ∙ sym c.is_named.ensures ∙ c.if-is_named.true in
     sym (any-from c.args.pages.now c.args.g c.args.high c.args.low c.requires.from (omega arith) c.requires.slots ∙ ap (λ (b : Bool). b || rest) is)
 
 pub has_later-requires : goal.has_later-requires
@@ -22,6 +21,5 @@ has_later-requires t c = (omega arith, (next-slot c.args.pages.now c.args.g c.re
 pub returns : goal.returns
 returns t c =
     let rest = list_any (has_name (name_from c.args.high c.args.low)) (SlotsFrom c.args.pages.now (c.args.g + 1)) in
-    let read = halves-read c.args.pages.now c.args.g c.word_of-a.result c.word_of-b.result c.word_of-c.result c.word_of-a.ensures c.word_of-b.ensures c.word_of-c.ensures in
-    let is = ap (λ (o : Option (ℕ × ℕ)). is_named o c.args.high c.args.low) (sym read) ∙ sym c.is_named.ensures ∙ c.if-is_named.false in
+    let is = ap (λ (o : Option (ℕ × ℕ)). is_named o c.args.high c.args.low) (sym c.halves_at.ensures) ∙ sym c.is_named.ensures ∙ c.if-is_named.false in
     c.has_later.ensures ∙ sym (any-from c.args.pages.now c.args.g c.args.high c.args.low c.requires.from (omega arith) c.requires.slots ∙ ap (λ (b : Bool). b || rest) is)
