@@ -14,7 +14,7 @@ use Rattle.psos_words.specs.Directory.{Slot, find, slot_for}
 use Rattle.psos_calls.specs.declared.effect.Effect.{Effect}
 use Rattle.psos_calls.specs.declared.kind.Kind.{Kind}
 use Rattle.psos_calls.specs.declared.kind.Kind.TheVariants as kinds
-use Rattle.psos_calls.specs.declared.level_answer.LevelAnswer.{LevelAnswer}
+use Rattle.psos_calls.specs.Levels.Answers.{LevelAnswer}
 use Rattle.psos_calls.specs.declared.level_answer.LevelAnswer.TheVariants.{Done, No}
 use Rattle.psos_calls.specs.declared.level_call.LevelCall.TheVariants.{DirAt, DirMake, ObjMake, RepOf, TypeAt}
 use Rattle.psos_calls.specs.declared.refusal.Refusal.TheVariants.{Absent, Lacks, Range}

@@ -13,7 +13,7 @@ use Rattle.psos_words.specs.declared.word.Word.TheVariants.{Cap}
 use Rattle.psos_words.specs.Directory.{Slot, Found, find, slot_for, gone_words}
 use Rattle.psos_calls.specs.declared.kind.Kind.{Kind}
 use Rattle.psos_calls.specs.declared.kind.Kind.TheVariants as kinds
-use Rattle.psos_calls.specs.declared.level_answer.LevelAnswer.{LevelAnswer}
+use Rattle.psos_calls.specs.Levels.Answers.{LevelAnswer}
 use Rattle.psos_calls.specs.declared.level_answer.LevelAnswer.TheVariants.{Done}
 use Rattle.psos_calls.specs.declared.level_call.LevelCall.TheVariants.{Forget}
 use Rattle.psos_calls.specs.declared.refusal.Refusal.TheVariants.{Exhausted}

@@ -14,8 +14,8 @@ use Rattle.psos_calls.specs.declared.kind.Kind.{Kind}
 use Rattle.psos_calls.specs.declared.kind.Kind.TheVariants as kinds
 use Rattle.psos_calls.specs.declared.level.Level.TheVariants.{L13, L11, L10, L9, L8, L7, L0}
 use Rattle.psos_calls.specs.declared.lock_id.LockId.{LockId}
-use Rattle.psos_calls.specs.declared.level_answer.LevelAnswer.{LevelAnswer}
-use Rattle.psos_calls.specs.declared.level_call.LevelCall.{LevelCall}
+use Rattle.psos_calls.specs.Levels.Answers.{LevelAnswer}
+use Rattle.psos_calls.specs.Levels.Calls.{LevelCall}
 use Rattle.psos_calls.specs.declared.level_call.LevelCall.TheVariants.{CodeMake, KindOf, Forget, DirAt, DirMake, DirGone, RepOf, TypeAt, TypeMake, ObjMake}
 use Rattle.psos_calls.specs.declared.refusal.Refusal.TheVariants.{Range, UnknownName, Distinguished, NotDistinguished, NotEmpty}
 use Rattle.psos_calls.specs.declared.reply.Reply.TheVariants as replies

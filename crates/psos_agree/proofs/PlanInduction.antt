@@ -6,9 +6,9 @@ use Rattle.psos_words.specs.declared.word.Word.{Word}
 use Rattle.psos_words.specs.declared.word.Word.TheVariants as words
 use Rattle.psos_words.specs.Directory.{decode, find, slot_for}
 use Rattle.psos_calls.specs.declared.kind.Kind.{Kind}
-use Rattle.psos_calls.specs.declared.level_answer.LevelAnswer.{LevelAnswer}
+use Rattle.psos_calls.specs.Levels.Answers.{LevelAnswer}
 use Rattle.psos_calls.specs.declared.level_answer.LevelAnswer.TheVariants.{Entered, Got, Is, Guard, Rep, At, Slot, Len, Whole, New, No}
-use Rattle.psos_calls.specs.declared.level_call.LevelCall.{LevelCall}
+use Rattle.psos_calls.specs.Levels.Calls.{LevelCall}
 use Rattle.psos_calls.specs.declared.refusal.Refusal.{Refusal}
 use Rattle.psos_calls.specs.declared.reply.Reply.{Reply}
 use Rattle.psos_calls.specs.declared.effect.Effect.{Effect}

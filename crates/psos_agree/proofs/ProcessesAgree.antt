@@ -14,7 +14,7 @@ use Rattle.psos_words.specs.Guard.{barred}
 use Rattle.psos_calls.specs.declared.code_row.CodeRow.{CodeRow}
 use Rattle.psos_calls.specs.declared.effect.Effect.TheVariants as effects
 use Rattle.psos_calls.specs.declared.kind.Kind.TheVariants as kinds
-use Rattle.psos_calls.specs.declared.level_answer.LevelAnswer.{LevelAnswer}
+use Rattle.psos_calls.specs.Levels.Answers.{LevelAnswer}
 use Rattle.psos_calls.specs.declared.level_answer.LevelAnswer.TheVariants.{Done, Got, No}
 use Rattle.psos_calls.specs.declared.obj_row.ObjRow.{ObjRow}
 use Rattle.psos_calls.specs.declared.refusal.Refusal.TheVariants.{Absent, Lacks, Guarded, Exhausted, Empty, WrongType}

@@ -12,7 +12,7 @@ use Rattle.psos_words.specs.Guard.{barred}
 use Rattle.psos_calls.specs.declared.win_row.WinRow.{WinRow}
 use Rattle.psos_calls.specs.declared.right.Right.TheVariants as rights
 use Rattle.psos_calls.specs.declared.request.Request.TheVariants as asks
-use Rattle.psos_calls.specs.declared.level_answer.LevelAnswer.{LevelAnswer}
+use Rattle.psos_calls.specs.Levels.Answers.{LevelAnswer}
 use Rattle.psos_calls.specs.declared.level_answer.LevelAnswer.TheVariants.{Done}
 use Rattle.psos_calls.specs.declared.level_call.LevelCall.TheVariants.{WordGet, WordPut, WinMake}
 use Rattle.psos_calls.specs.Language.Rights.{has}

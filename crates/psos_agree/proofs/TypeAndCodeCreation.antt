@@ -12,7 +12,7 @@ use Rattle.psos_words.specs.Guard.{barred}
 use Rattle.psos_calls.specs.declared.code_row.CodeRow.{CodeRow}
 use Rattle.psos_calls.specs.declared.kind.Kind.{Kind}
 use Rattle.psos_calls.specs.declared.kind.Kind.TheVariants as kinds
-use Rattle.psos_calls.specs.declared.level_answer.LevelAnswer.{LevelAnswer}
+use Rattle.psos_calls.specs.Levels.Answers.{LevelAnswer}
 use Rattle.psos_calls.specs.declared.level_answer.LevelAnswer.TheVariants.{Done}
 use Rattle.psos_calls.specs.declared.level_call.LevelCall.TheVariants.{TypeMake, CodeMake, KindOf, Forget}
 use Rattle.psos_calls.specs.declared.refusal.Refusal.TheVariants.{Guarded, UnknownName, NotDistinguished}

@@ -12,7 +12,7 @@ use Rattle.psos_words.specs.Directory.{Slot, Found, find}
 use Rattle.psos_calls.specs.declared.code_row.CodeRow.{CodeRow}
 use Rattle.psos_calls.specs.declared.kind.Kind.{Kind}
 use Rattle.psos_calls.specs.declared.kind.Kind.TheVariants as kinds
-use Rattle.psos_calls.specs.declared.level_answer.LevelAnswer.{LevelAnswer}
+use Rattle.psos_calls.specs.Levels.Answers.{LevelAnswer}
 use Rattle.psos_calls.specs.declared.level_answer.LevelAnswer.TheVariants.{Done, No}
 use Rattle.psos_calls.specs.declared.obj_row.ObjRow.{ObjRow}
 use Rattle.psos_calls.specs.declared.refusal.Refusal.TheVariants.{NotEmpty}

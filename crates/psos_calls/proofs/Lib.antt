@@ -3,3 +3,7 @@ pub mod PhasePlaces
 pub mod BodyEnds
 pub mod RefusedCalls
 pub mod RightBits
+pub mod DirectoryCalls
+pub mod TraceSteps
+pub mod KeptCalls
+pub mod MadeCalls

@@ -12,9 +12,9 @@ use Rattle.psos_calls.specs.declared.refusal.Refusal.{Refusal}
 use Rattle.psos_calls.specs.declared.refusal.Refusal.TheVariants.{Absent, Lacks, Guarded, Exhausted, Empty, NotEmpty}
 use Rattle.psos_calls.specs.declared.level.Level.{Level}
 use Rattle.psos_calls.specs.declared.level.Level.TheVariants.{L13, L12, L11, L10, L9, L8, L7, L0}
-use Rattle.psos_calls.specs.declared.level_call.LevelCall.{LevelCall}
+use Rattle.psos_calls.specs.Levels.Calls.{LevelCall}
 use Rattle.psos_calls.specs.declared.level_call.LevelCall.TheVariants.{CodeMake, CodeGone, Post, Draw, Enrol, Forget, DirMake, DirGone, TypeMake, ObjMake, ObjGone, TypeGone, SegMake, SegGone, WinMake, PageTake, PageDrop, WordPut, FourPut}
-use Rattle.psos_calls.specs.declared.level_answer.LevelAnswer.{LevelAnswer}
+use Rattle.psos_calls.specs.Levels.Answers.{LevelAnswer}
 use Rattle.psos_calls.specs.declared.level_answer.LevelAnswer.TheVariants.{Done, No}
 use Rattle.psos_calls.specs.Language.Rights.{has}
 use Rattle.psos_calls.specs.Language.Tests.{if_there, if_none, if_holds}

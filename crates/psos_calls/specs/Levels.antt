@@ -1,4 +1,6 @@
 -- The levels as machines: what a call changes and answers. States docs/levels.md, "Calls".
+pub mod Calls
+pub mod Answers
 pub mod Level7
 pub mod Level8
 pub mod Level9
@@ -12,9 +14,9 @@ use Rattle.std.specs.Prelude.{◌≡◌, ℕ, ◌+◌, ◌-◌, ◌^◌, ◌<◌
 use Rattle.psos_caps.specs.Capability.{full}
 use Rattle.psos_calls.specs.declared.level.Level.{Level}
 use Rattle.psos_calls.specs.declared.level.Level.TheVariants.{L13, L12, L11, L10, L9, L8, L7, L0}
-use Rattle.psos_calls.specs.declared.level_call.LevelCall.{LevelCall}
+use Rattle.psos_calls.specs.Levels.Calls.{LevelCall}
 use Rattle.psos_calls.specs.declared.level_call.LevelCall.TheVariants.{Hold13, Admit, CodeMake, Enter, CodeGone, Post, Draw, Hold11, Room, Enrol, KindOf, Forget, DirAt, DirMake, DirGone, RepOf, TypeAt, TypeMake, ObjMake, Impl, ObjGone, TypeGone, Locate, SlotOf, SegMake, SegGone, WinRoom, WinMake, Length, PageTake, PageDrop, WordGet, WordPut, PageGet, FourPut, Fresh}
-use Rattle.psos_calls.specs.declared.level_answer.LevelAnswer.{LevelAnswer}
+use Rattle.psos_calls.specs.Levels.Answers.{LevelAnswer}
 use Rattle.psos_calls.specs.declared.level_answer.LevelAnswer.TheVariants.{New}
 use Rattle.psos_calls.specs.Levels.Level7.{Pages, act7, Can7}
 use Rattle.psos_calls.specs.Levels.Level8.{SegState, act8, Can8}

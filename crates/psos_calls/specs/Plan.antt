@@ -1,4 +1,7 @@
 -- Plans: trees of level calls, each of which closes its request in the end. States docs/requests.md, "Plans".
+pub mod Kept
+pub mod Steps
+pub mod Asked
 pub mod Parts
 pub mod Segments
 pub mod Directories
@@ -17,8 +20,8 @@ use Rattle.psos_calls.specs.declared.refusal.Refusal.TheVariants.{Range}
 use Rattle.psos_calls.specs.declared.effect.Effect.{Effect}
 use Rattle.psos_calls.specs.declared.effect.Effect.TheVariants.{Nothing, Put}
 use Rattle.psos_calls.specs.declared.level.Level.{Level}
-use Rattle.psos_calls.specs.declared.level_call.LevelCall.{LevelCall}
-use Rattle.psos_calls.specs.declared.level_answer.LevelAnswer.{LevelAnswer}
+use Rattle.psos_calls.specs.Levels.Calls.{LevelCall}
+use Rattle.psos_calls.specs.Levels.Answers.{LevelAnswer}
 use Rattle.psos_calls.specs.declared.level_answer.LevelAnswer.TheVariants.{Entered, Got, Is, Guard, Rep, At, Slot, Len, Whole, New, No}
 use Rattle.psos_calls.specs.Language.Replies.{word_reply}
 use Rattle.psos_calls.specs.Levels.{Levels, level_of, act, Can}

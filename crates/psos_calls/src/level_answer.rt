@@ -1,13 +1,16 @@
 // What the levels answer.
 ghost use Rattle.std.specs.Prelude.{◌≡◌};
+ghost use Rattle.psos_calls.specs.Levels.Answers.{with_any_page};
 
-use crate::{Kind, Refusal};
+use crate::{Kind, NoPage, Refusal};
 use psos_caps::{Cap, Rights, Uid};
 use psos_words::{Page, Word};
 
-/// What a level's function answers (docs/levels.md, "Calls").
-#[derive(Drop)]
-pub enum LevelAnswer {
+/// What a level's function answers (docs/levels.md, "Calls"). `P` says how a page is told: by its words, as a `Page`;
+/// by where it lies in a trace, as a `Sheet`; or not at all, as `NoPage`, where the answer is none of a page and takes no
+/// room for one.
+#[derive(Clone, Copy)]
+pub enum LevelAnswer<P = Page> {
     /// The call was made; there is nothing to tell.
     Done,
     /// The label of a procedure record, and its linkage.
@@ -27,31 +30,31 @@ pub enum LevelAnswer {
     /// A number of words.
     Len(u64),
     /// All words of a page.
-    Whole(Page),
+    Whole(P),
     /// A capability on a new identifier.
     New(Cap),
     /// Nothing was changed.
     No(Refusal),
 }
 
-impl LevelAnswer {
-    /// Becomes the same answer as another, in its place: words of a page are moved only where there is a page.
-    pub(crate) fn set(&mut self, other: &LevelAnswer)
-        ensures { self.new ≡ other.now }
+impl LevelAnswer<NoPage> {
+    /// The same answer among those that may tell a page.
+    pub fn with_any_page<P>(self) -> LevelAnswer<P>
+        ensures { result ≡ with_any_page self }
     {
-        match *other {
-            LevelAnswer::Done => *self = LevelAnswer::Done,
-            LevelAnswer::Entered { label, link } => *self = LevelAnswer::Entered { label, link },
-            LevelAnswer::Got(word) => *self = LevelAnswer::Got(word),
-            LevelAnswer::Is(kind) => *self = LevelAnswer::Is(kind),
-            LevelAnswer::Guard(guard) => *self = LevelAnswer::Guard(guard),
-            LevelAnswer::Rep(uid) => *self = LevelAnswer::Rep(uid),
-            LevelAnswer::At { page, off } => *self = LevelAnswer::At { page, off },
-            LevelAnswer::Slot(slot) => *self = LevelAnswer::Slot(slot),
-            LevelAnswer::Len(n) => *self = LevelAnswer::Len(n),
-            LevelAnswer::Whole(ref page) => *self = LevelAnswer::Whole(page.copied()),
-            LevelAnswer::New(cap) => *self = LevelAnswer::New(cap),
-            LevelAnswer::No(refusal) => *self = LevelAnswer::No(refusal),
+        match self {
+            LevelAnswer::Done => LevelAnswer::Done,
+            LevelAnswer::Entered { label, link } => LevelAnswer::Entered { label, link },
+            LevelAnswer::Got(word) => LevelAnswer::Got(word),
+            LevelAnswer::Is(kind) => LevelAnswer::Is(kind),
+            LevelAnswer::Guard(guard) => LevelAnswer::Guard(guard),
+            LevelAnswer::Rep(uid) => LevelAnswer::Rep(uid),
+            LevelAnswer::At { page, off } => LevelAnswer::At { page, off },
+            LevelAnswer::Slot(slot) => LevelAnswer::Slot(slot),
+            LevelAnswer::Len(n) => LevelAnswer::Len(n),
+            LevelAnswer::Whole(page) => match page {},
+            LevelAnswer::New(cap) => LevelAnswer::New(cap),
+            LevelAnswer::No(refusal) => LevelAnswer::No(refusal),
         }
     }
 }

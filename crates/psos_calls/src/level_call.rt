@@ -1,11 +1,15 @@
 // What a plan asks of the levels.
+ghost use Rattle.std.specs.Prelude.{◌≡◌};
+ghost use Rattle.psos_calls.specs.Levels.Calls.{with_four};
+
 use crate::{Kind, Right};
 use psos_caps::{Cap, Rights, Uid};
 use psos_words::Word;
 
-/// A call of one level's function (docs/levels.md, "Calls").
+/// A call of one level's function (docs/levels.md, "Calls"). `F` says how the words of `FourPut` are told: as they are,
+/// or by where they lie among the calls of an entry.
 #[derive(Clone, Copy)]
-pub enum LevelCall {
+pub enum LevelCall<F = [Word; 4]> {
     // Level 13
     /// Nothing is asked; the level is held from here on.
     Hold13,
@@ -169,9 +173,89 @@ pub enum LevelCall {
     FourPut {
         page: u16,
         off: u8,
-        words: [Word; 4],
+        words: F,
     },
     // Level 0
     /// A capability on the next identifier, with all rights; the next rises by one.
     Fresh,
+}
+
+impl LevelCall {
+    /// The same call; if it writes four words, they are told by this place.
+    pub(crate) fn with_four(&self, four: usize) -> LevelCall<usize>
+        ensures { result ≡ with_four (λ _. four) self.now }
+    {
+        match *self {
+            LevelCall::Hold13 => LevelCall::Hold13,
+            LevelCall::Admit { word } => LevelCall::Admit { word },
+            LevelCall::CodeMake { uid, label, link } => LevelCall::CodeMake { uid, label, link },
+            LevelCall::Enter { cap } => LevelCall::Enter { cap },
+            LevelCall::CodeGone { uid } => LevelCall::CodeGone { uid },
+            LevelCall::Post { to, word } => LevelCall::Post { to, word },
+            LevelCall::Draw { uid } => LevelCall::Draw { uid },
+            LevelCall::Hold11 => LevelCall::Hold11,
+            LevelCall::Room => LevelCall::Room,
+            LevelCall::Enrol { uid, kind } => LevelCall::Enrol { uid, kind },
+            LevelCall::KindOf { uid } => LevelCall::KindOf { uid },
+            LevelCall::Forget { uid } => LevelCall::Forget { uid },
+            LevelCall::DirAt { cap, right } => LevelCall::DirAt { cap, right },
+            LevelCall::DirMake { uid, guard } => LevelCall::DirMake { uid, guard },
+            LevelCall::DirGone { uid } => LevelCall::DirGone { uid },
+            LevelCall::RepOf { uid } => LevelCall::RepOf { uid },
+            LevelCall::TypeAt { cap } => LevelCall::TypeAt { cap },
+            LevelCall::TypeMake { uid } => LevelCall::TypeMake { uid },
+            LevelCall::ObjMake { uid, of, rep } => LevelCall::ObjMake { uid, of, rep },
+            LevelCall::Impl { of, on } => LevelCall::Impl { of, on },
+            LevelCall::ObjGone { uid } => LevelCall::ObjGone { uid },
+            LevelCall::TypeGone { uid } => LevelCall::TypeGone { uid },
+            LevelCall::Locate {
+                cap,
+                off,
+                need,
+                word,
+            } => LevelCall::Locate {
+                cap,
+                off,
+                need,
+                word,
+            },
+            LevelCall::SlotOf { uid } => LevelCall::SlotOf { uid },
+            LevelCall::SegMake {
+                uid,
+                slot,
+                len,
+                guard,
+            } => LevelCall::SegMake {
+                uid,
+                slot,
+                len,
+                guard,
+            },
+            LevelCall::SegGone { uid } => LevelCall::SegGone { uid },
+            LevelCall::WinRoom { cap, base, len } => LevelCall::WinRoom { cap, base, len },
+            LevelCall::WinMake {
+                uid,
+                cap,
+                base,
+                len,
+            } => LevelCall::WinMake {
+                uid,
+                cap,
+                base,
+                len,
+            },
+            LevelCall::Length { cap } => LevelCall::Length { cap },
+            LevelCall::PageTake => LevelCall::PageTake,
+            LevelCall::PageDrop { slot } => LevelCall::PageDrop { slot },
+            LevelCall::WordGet { page, off } => LevelCall::WordGet { page, off },
+            LevelCall::WordPut { page, off, word } => LevelCall::WordPut { page, off, word },
+            LevelCall::PageGet { page } => LevelCall::PageGet { page },
+            LevelCall::FourPut { page, off, .. } => LevelCall::FourPut {
+                page,
+                off,
+                words: four,
+            },
+            LevelCall::Fresh => LevelCall::Fresh,
+        }
+    }
 }

@@ -3,9 +3,10 @@ ghost use Rattle.std.specs.Prelude.{◌≡◌, IfOk, IfErr, OnOk, OnErr, alloc_e
 ghost use Rattle.std.specs.FinMap.{empty};
 ghost use Rattle.psos_calls.specs.declared.level.Level.TheVariants.{L13};
 ghost use Rattle.psos_calls.specs.Levels.{AddsRowAt};
+ghost use Rattle.psos_calls.specs.Levels.Answers.{with_any_page};
 ghost use Rattle.psos_calls.specs.Levels.Level13.{admitted, entered, act13, Can13};
 
-use psos_calls::{CodeRow, Kind, LevelAnswer, LevelCall, LevelFault, Refusal, Right, has};
+use psos_calls::{CodeRow, Kind, LevelAnswer, LevelCall, LevelFault, NoPage, Refusal, Right, has};
 use psos_caps::{Cap, Rights};
 use psos_guards::admits;
 use psos_table::Table;
@@ -33,10 +34,8 @@ impl Model for Codes {
 }
 
 // Whether a word may be the linkage of a record: a record is a store of guard 1.
-// It stands apart, since an answer has room for a page, and the locals of `act` are filled at each call.
-#[inline(never)]
-fn admit(word: Word) -> LevelAnswer
-    ensures { result ≡ admitted word }
+fn admit(word: Word) -> LevelAnswer<NoPage>
+    ensures { with_any_page result ≡ admitted word }
 {
     match admits(Rights::of(1), word) {
         Ok(()) => LevelAnswer::Done,
@@ -55,9 +54,8 @@ impl Codes {
     }
 
     // The record that a capability names, for one who may enter it.
-    #[inline(never)]
-    fn enter(&self, cap: Cap) -> LevelAnswer
-        ensures { result ≡ entered self.now cap }
+    fn enter(&self, cap: Cap) -> LevelAnswer<NoPage>
+        ensures { with_any_page result ≡ entered self.now cap }
     {
         let Some(record) = self.records.get(cap.uid().0) else {
             return LevelAnswer::No(Refusal::Absent(Kind::Code));
@@ -71,15 +69,18 @@ impl Codes {
         }
     }
 
-    /// Makes a call of level 13 (docs/levels.md, "Calls"): what it leaves and answers are those of `act13`. A refusal
-    /// is the answer `No`, and changes nothing; a call of another level is answered with `Done`. `Err` only where memory
-    /// runs out, in `CodeMake` alone: the level is unchanged. Rows take their memory from the allocator of `new`;
-    /// `_alloc` stands there since the calls of all levels have one form.
-    #[inline(never)]
-    pub fn act(&mut self, _alloc: Global, call: &LevelCall) -> Result<LevelAnswer, LevelFault>
+    /// Makes a call of level 13 (docs/levels.md, "Calls"): what it leaves and answers are those of `act13`. The
+    /// answer tells no page. A refusal is the answer `No`, and changes nothing; a call of another level is answered with
+    /// `Done`. `Err` only where memory runs out, in `CodeMake` alone: the level is unchanged. Rows take their memory from
+    /// the allocator of `new`; `_alloc` stands there since the calls of all levels have one form.
+    pub fn act(
+        &mut self,
+        _alloc: Global,
+        call: &LevelCall,
+    ) -> Result<LevelAnswer<NoPage>, LevelFault>
         requires { Can13 self.old call.now }
         ensures state { OnOk result (self.new ≡ (act13 self.old call.now).0) }
-        ensures answer { IfOk result (λ a. a ≡ (act13 self.old call.now).1) }
+        ensures answer { IfOk result (λ a. with_any_page a ≡ (act13 self.old call.now).1) }
         ensures unchanged { OnErr result (self.new ≡ self.old) }
         ensures memory { IfErr result (λ fault. fault ≡ LevelFault.Memory alloc_error) }
         ensures adding { OnErr result (AddsRowAt L13 call.now) }

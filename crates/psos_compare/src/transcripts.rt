@@ -16,7 +16,7 @@ fn entry(alloc: Global, user: u8, n: u16, called: bool) -> Result<Entry, AllocEr
 {
     let mut steps = Steps::empty(alloc);
     if called {
-        steps.push(Level::L0, LevelCall::Fresh)?;
+        steps.push(Level::L0, &LevelCall::Fresh)?;
     }
     Ok(Entry {
         user,

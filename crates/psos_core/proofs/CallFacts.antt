@@ -1,9 +1,9 @@
 -- What the code of a take or a call has found, and what it leaves. States docs/levels.md, "Locks".
-use Rattle.std.proofs.Common.{◌≡◌, ℕ, ◌<◌, Bool, true, false, List, [], ◌∷◌, ◌++◌, length, get_or, set, Option, Some, refl, sym, ap, ◌∙◌, subst}
+use Rattle.std.proofs.Common.{◌≡◌, ℕ, ◌<◌, Bool, true, false, List, [], ◌∷◌, ◌++◌, length, get_or, set, Some, refl, sym, ap, ◌∙◌, subst}
 use Rattle.std.specs.Prelude.{slice_get, IsTrue}
 use Rattle.std.specs.Vec.{with_item}
 use Rattle.psos_calls.specs.declared.level.Level.{Level}
-use Rattle.psos_calls.specs.declared.level_call.LevelCall.{LevelCall}
+use Rattle.psos_calls.specs.Levels.Calls.{LevelCall}
 use Rattle.psos_calls.specs.declared.lock_id.LockId.{LockId}
 use Rattle.psos_calls.specs.declared.next.Next.TheVariants as nexts
 use Rattle.psos_calls.specs.declared.step.Step.{Step}
@@ -21,10 +21,10 @@ use Rattle.psos_core.specs.declared.levels.Levels.{Levels}
 use Rattle.psos_core.specs.declared.ongoing.Ongoing.{Ongoing}
 use Rattle.psos_core.specs.declared.upcoming.Upcoming.{Upcoming}
 use Rattle.psos_core.specs.System.{levels_of}
-use Rattle.psos_core.specs.Plans.{state_in, next_after, next_for, CanPlan, IsLeveled, closes, Tells, is_known}
+use Rattle.psos_core.specs.Plans.{state_in, next_after, next_for, CanPlan, closes, Tells, is_known}
 use Rattle.psos_core.specs.Events.{MayStep, HasStepped, HasStopped}
 use Rattle.psos_core.proofs.UserSlots.{found_there}
-use Rattle.psos_core.proofs.EventStep.{leveled, in_place, still_closes}
+use Rattle.psos_core.proofs.EventStep.{in_place, still_closes}
 use Rattle.psos_core.proofs.EventRun.{can_call, room, event_call}
 use Rattle.psos_core.proofs.EventParts.{lock_is, held_is, read_back, longer_is, called_is, below, traced, made_plan, made_next, made, made_stopped}
 

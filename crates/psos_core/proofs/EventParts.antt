@@ -5,7 +5,7 @@ use Rattle.std.specs.Option.{option_and_then}
 use Rattle.std.specs.List.{refill}
 use Rattle.std.proofs.lemmas.List.{take_at, length-set, set-get_or, get_or-set_same, get_or-set_other}
 use Rattle.psos_calls.specs.declared.level.Level.{Level}
-use Rattle.psos_calls.specs.declared.level_call.LevelCall.{LevelCall}
+use Rattle.psos_calls.specs.Levels.Calls.{LevelCall}
 use Rattle.psos_calls.specs.declared.next.Next.{Next}
 use Rattle.psos_calls.specs.declared.next.Next.TheVariants as nexts
 use Rattle.psos_calls.specs.declared.reply.Reply.{Reply}

@@ -2,8 +2,8 @@
 use Rattle.std.proofs.Common.{◌≡◌, ℕ, suc, ◌<◌, ◌≤◌, List, [], ◌∷◌, ◌++◌, length, refl, sym, subst, ap, ◌∙◌, append_assoc, append-nil, length-append, arith}
 use Rattle.psos_calls.specs.declared.step.Step.{Step}
 use Rattle.psos_calls.specs.declared.level.Level.{Level}
-use Rattle.psos_calls.specs.declared.level_call.LevelCall.{LevelCall}
-use Rattle.psos_calls.specs.declared.level_answer.LevelAnswer.{LevelAnswer}
+use Rattle.psos_calls.specs.Levels.Calls.{LevelCall}
+use Rattle.psos_calls.specs.Levels.Answers.{LevelAnswer}
 use Rattle.psos_calls.specs.declared.next.Next.TheVariants.{Call, Close}
 use Rattle.psos_calls.specs.declared.reply.Reply.{Reply}
 use Rattle.psos_calls.specs.declared.effect.Effect.{Effect}

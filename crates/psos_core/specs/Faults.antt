@@ -2,8 +2,7 @@
 use Rattle.std.specs.Prelude.{◌≡◌, ◌≤◌, ◌⊎◌, ℕ, Option, Some, None, Result, IfErr, IsTrue}
 use Rattle.psos_io.specs.Causes.{Rose}
 use Rattle.psos_calls.specs.declared.level.Level.TheVariants.{L7}
-use Rattle.psos_calls.specs.declared.level_call.LevelCall.{LevelCall}
-use Rattle.psos_calls.specs.declared.level_answer.LevelAnswer.{LevelAnswer}
+use Rattle.psos_calls.specs.Levels.Calls.{LevelCall}
 use Rattle.psos_calls.specs.declared.level_fault.LevelFault.{LevelFault}
 use Rattle.psos_calls.specs.declared.level_fault.LevelFault.TheVariants as faults
 use Rattle.psos_calls.specs.declared.next.Next.{Next}
@@ -16,7 +15,7 @@ use Rattle.psos_core.specs.Plans.{closes}
 -- ---- what the store's count says
 
 -- the store's count never falls, and rose where the store is named as the cause
-pub record IsLicensed (before now : ℕ) (result : Result LevelAnswer LevelFault) : Type 0 where
+pub record IsLicensed {A : Type 0} (before now : ℕ) (result : Result A LevelFault) : Type 0 where
   pub later : before ≤ now
   pub store : IfErr result (λ fault. fault ≡ faults.Store → Rose before now)
 

@@ -2,7 +2,7 @@
 use Rattle.std.specs.Prelude.{◌≡◌, ℕ, ◌||◌, Bool, true, false, List, [], length, slice_get, slice_index_or, Option, Some, None, IsTrue}
 use Rattle.std.specs.Option.{option_map, option_and_then}
 use Rattle.psos_calls.specs.declared.level.Level.{Level}
-use Rattle.psos_calls.specs.declared.level_call.LevelCall.{LevelCall}
+use Rattle.psos_calls.specs.Levels.Calls.{LevelCall}
 use Rattle.psos_calls.specs.declared.lock_id.LockId.{LockId}
 use Rattle.psos_calls.specs.declared.next.Next.{Next}
 use Rattle.psos_calls.specs.declared.next.Next.TheVariants as nexts

@@ -83,7 +83,7 @@ fn take_slots<B: Store>(pages: &mut Pages<B>, alloc: Global, count: u16) -> Resu
         return Ok(());
     }
     take_slots(pages, alloc, count - 1)?;
-    match pages.act(alloc, &LevelCall::PageTake) {
+    match pages.answer(alloc, &LevelCall::PageTake) {
         Ok(_) => Ok(()),
         Err(_) => Err(AllocError),
     }
@@ -115,7 +115,7 @@ fn put_entry<B: Store>(pages: &mut Pages<B>, alloc: Global, i: u8) -> Result<(),
         off: 0,
         words: scratch_entry(i),
     };
-    match pages.act(alloc, &call) {
+    match pages.answer(alloc, &call) {
         Ok(_) => Ok(()),
         Err(_) => Err(AllocError),
     }

@@ -23,7 +23,7 @@ impl<B: Store> Core<B> {
         ensures { result ≡ is_enabled self.now.script (core_state_of self.now) user }
     {
         let me = &self.levels.privates.as_slice()[user as usize];
-        is_left(&self.script, me, self.ongoing.phase) && self.may_go(user)
+        self.may_go(user) && is_left(&self.script, me, self.ongoing.phase)
     }
 
     // Whether the plan of a user's request may go on.

@@ -11,7 +11,7 @@ use crate::planning::planned;
 use crate::upcoming::Upcoming;
 use psos_calls::{Level, LevelCall, Next, Private, Script, Trace, lock_of};
 use psos_model::current_phase;
-use psos_sysproc::{Table, Want};
+use psos_sysproc::Table;
 use std::alloc::{AllocError, Global};
 
 /// What users have under way: the locks that each holds, and the calls of its open request.
@@ -85,8 +85,7 @@ impl Ongoing {
     }
 
     /// Whether the plan of a user's request may go on, among so many users: with a call under a lock that the user
-    /// holds or may take, or
-    /// with the close.
+    /// holds or may take, or with the close.
     pub fn may_go(&self, users: u8, user: u8) -> bool
         requires users { users ≡ length self.now.held }
         requires user { user < length self.now.held }
@@ -97,8 +96,7 @@ impl Ongoing {
         match &self.nexts[user as usize] {
             Upcoming::Known(Next::Call(level, call)) => {
                 let lock = lock_of(users, *level, call);
-                self.held.enabled(user, Want::Call(lock))
-                    || self.held.enabled(user, Want::Take(lock))
+                self.held.may_hold(user, lock)
             }
             Upcoming::Known(Next::Close(_, _)) | Upcoming::Close => true,
             Upcoming::Nothing => false,

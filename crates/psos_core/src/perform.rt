@@ -1,7 +1,7 @@
 // The plan of a request, run call by call.
 ghost use Rattle.std.specs.Prelude.{◌≡◌, ◌≤◌, ◌<◌, [], ◌∷◌, ◌++◌, length, slice_get, Some, IfOk, OnOk, IfErr, OnErr};
 ghost use Rattle.psos_limits.specs.declared.TheConstants.{MOST_CODES, MOST_CALLS, TRACE_ROOM};
-ghost use Rattle.psos_calls.specs.declared.level_call.LevelCall.{LevelCall};
+ghost use Rattle.psos_calls.specs.Levels.Calls.{LevelCall as AnyCall};
 ghost use Rattle.psos_calls.specs.Language.Request.{InRange};
 ghost use Rattle.psos_calls.specs.Language.User.{User};
 ghost use Rattle.psos_calls.specs.Levels.{level_of, act, Can};
@@ -30,7 +30,7 @@ pub(crate) struct Closing {
 // Why a run stops where a level's call could not be made.
 fn stop_cause(fault: &LevelFault) -> StopCause
     ensures store { result ≡ StopCause.Store → fault.now ≡ LevelFault.Store }
-    ensures why { (call : LevelCall) → CanFault call fault.now → CanStop call result }
+    ensures why { (call : AnyCall) → CanFault call fault.now → CanStop call result }
 {
     match *fault {
         LevelFault::Store => StopCause::Store,
@@ -38,7 +38,7 @@ fn stop_cause(fault: &LevelFault) -> StopCause
     }
 }
 
-/// Makes a call, and keeps it in the trace with its answer, which is not moved, since it has room for a page. It stops
+/// Makes a call, and keeps it in the trace with its answer; a page is copied into the trace from where it lies. It stops
 /// for want of memory, where the call adds a row, or for a fault of the store, which its count shows, at level 7. Then
 /// the levels and the trace are as they were.
 pub(crate) fn make<B: Store>(
@@ -63,12 +63,16 @@ pub(crate) fn make<B: Store>(
     ensures why { IfErr result (CanStop call.now) }
     ensures cause { MayStop (B.faults levels.old.pages.store) (B.faults levels.new.pages.store) result }
 {
-    match &levels.act(alloc, level, call) {
+    if let LevelCall::PageGet { page } = *call {
+        trace.push_page(level, call, levels.pages.page(page));
+        return Ok(());
+    }
+    match levels.answer(alloc, level, call) {
         Ok(answer) => {
             trace.push(level, call, answer);
             Ok(())
         }
-        Err(fault) => Err(stop_cause(fault)),
+        Err(fault) => Err(stop_cause(&fault)),
     }
 }
 

@@ -7,8 +7,8 @@ use Rattle.std.proofs.lemmas.Option.{none-some}
 use Rattle.psos_calls.specs.declared.request.Request.{Request}
 use Rattle.psos_calls.specs.declared.reply.Reply.{Reply}
 use Rattle.psos_calls.specs.declared.effect.Effect.{Effect}
-use Rattle.psos_calls.specs.declared.level_answer.LevelAnswer.{LevelAnswer}
-use Rattle.psos_calls.specs.declared.level_call.LevelCall.{LevelCall}
+use Rattle.psos_calls.specs.Levels.Answers.{LevelAnswer}
+use Rattle.psos_calls.specs.Levels.Calls.{LevelCall}
 use Rattle.psos_calls.specs.Language.Script.{Script}
 use Rattle.psos_calls.specs.Language.User.{User, next_request}
 use Rattle.psos_calls.specs.Locks.Held.{is_held}

@@ -3,7 +3,7 @@ use Rattle.std.proofs.Common.{◌≡◌, ℕ, ◌⊎◌, Bool, true, false, List
 use Rattle.std.proofs.lemmas.Bool.{true≢false, cases_eq, or_cases, or_parts}
 use Rattle.psos_calls.specs.declared.lock_id.LockId.{LockId}
 use Rattle.psos_calls.specs.declared.step.Step.{Step}
-use Rattle.psos_calls.specs.declared.level_call.LevelCall.{LevelCall}
+use Rattle.psos_calls.specs.Levels.Calls.{LevelCall}
 use Rattle.psos_calls.specs.Levels.{Levels, act}
 use Rattle.psos_calls.specs.Locks.Held.{same_lock, is_lock, is_held}
 use Rattle.psos_calls.specs.Locks.{lock_of}

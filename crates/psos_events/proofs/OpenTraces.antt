@@ -5,8 +5,8 @@ use Rattle.psos_calls.specs.declared.lock_id.LockId.{LockId}
 use Rattle.psos_calls.specs.declared.step.Step.{Step}
 use Rattle.psos_calls.specs.declared.reply.Reply.{Reply}
 use Rattle.psos_calls.specs.declared.effect.Effect.{Effect}
-use Rattle.psos_calls.specs.declared.level_answer.LevelAnswer.{LevelAnswer}
-use Rattle.psos_calls.specs.declared.level_call.LevelCall.{LevelCall}
+use Rattle.psos_calls.specs.Levels.Answers.{LevelAnswer}
+use Rattle.psos_calls.specs.Levels.Calls.{LevelCall}
 use Rattle.psos_calls.specs.declared.level_call.LevelCall.TheVariants.{Fresh}
 use Rattle.psos_calls.specs.Levels.{Levels, level_of, act}
 use Rattle.psos_calls.specs.Locks.Held.{same_lock, is_lock, is_held}

@@ -45,15 +45,15 @@ impl Report {
         self.put(b"\n")
     }
 
-    /// A level's answer.
-    pub fn answer(&mut self, what: &[u8], answer: &LevelAnswer) {
+    /// A level's answer. Of a page no word is told.
+    pub fn answer<P>(&mut self, what: &[u8], answer: &LevelAnswer<P>) {
         self.begin(what);
         self.put_answer(answer);
         self.put(b"\n")
     }
 
     /// A level's answer on a page and a place on it.
-    pub fn answer_at(&mut self, what: &[u8], page: u16, off: u8, answer: &LevelAnswer) {
+    pub fn answer_at<P>(&mut self, what: &[u8], page: u16, off: u8, answer: &LevelAnswer<P>) {
         self.put(what);
         self.put(b" ");
         self.put_number(u64::from(page));
@@ -140,7 +140,7 @@ impl Report {
         }
     }
 
-    fn put_answer(&mut self, answer: &LevelAnswer) {
+    fn put_answer<P>(&mut self, answer: &LevelAnswer<P>) {
         self.put(answer_text(answer));
         match *answer {
             LevelAnswer::Entered { label, link } => {

@@ -2,7 +2,7 @@
 use crate::crossing::crosses;
 use crate::report::Report;
 use crate::stop::Stop;
-use psos_calls::{LevelAnswer, LevelCall, Right};
+use psos_calls::{LevelAnswer, LevelCall, NoPage, Right};
 use psos_caps::{Cap, Issuer, Rights, Uid};
 use psos_segs::Segs;
 use psos_words::Word;
@@ -16,7 +16,7 @@ pub fn show(report: &mut Report) -> Result<(), Stop> {
 }
 
 // The answer to a call. Its condition holds.
-fn ask(report: &mut Report, segs: &mut Segs, call: LevelCall) -> Result<LevelAnswer, Stop> {
+fn ask(report: &mut Report, segs: &mut Segs, call: LevelCall) -> Result<LevelAnswer<NoPage>, Stop> {
     if !segs.can(&call) {
         return Err(Stop);
     }

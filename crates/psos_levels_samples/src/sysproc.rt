@@ -6,6 +6,7 @@ ghost use Rattle.psos_sysproc.specs.Wants.{is_known};
 use crate::report::Report;
 use crate::stop::Stop;
 use psos_calls::{Level, LockId};
+use psos_sysproc::Want::{Call, Close, Take};
 use psos_sysproc::{Table, Turns, Want};
 
 const OTHER_BOX: LockId = LockId {
@@ -41,15 +42,9 @@ pub fn show(report: &mut Report) -> Result<(), Stop> {
     first(report, &mut table);
     second(report, &mut table);
     table.release(0);
-    may(report, b"0 calls segments", &table, 0, Want::Call(SEGMENTS));
-    may(
-        report,
-        b"1 takes the box of 1",
-        &table,
-        1,
-        Want::Take(OTHER_BOX),
-    );
-    may(report, b"1 takes segments", &table, 1, Want::Take(SEGMENTS));
+    may(report, b"0 calls segments", &table, 0, Call(SEGMENTS));
+    may(report, b"1 takes the box of 1", &table, 1, Take(OTHER_BOX));
+    may(report, b"1 takes segments", &table, 1, Take(SEGMENTS));
     Ok(())
 }
 
@@ -71,58 +66,16 @@ fn first(report: &mut Report, table: &mut Table)
     requires { length table.old ≡ 2 }
     ensures { length table.new ≡ 2 }
 {
-    may(report, b"0 closes", table, 0, Want::Close);
-    may(
-        report,
-        b"0 calls the box of 1",
-        table,
-        0,
-        Want::Call(OTHER_BOX),
-    );
-    may(
-        report,
-        b"0 takes the box of 1",
-        table,
-        0,
-        Want::Take(OTHER_BOX),
-    );
+    may(report, b"0 closes", table, 0, Close);
+    may(report, b"0 calls the box of 1", table, 0, Call(OTHER_BOX));
+    may(report, b"0 takes the box of 1", table, 0, Take(OTHER_BOX));
     take(table, OTHER_BOX);
-    may(
-        report,
-        b"0 calls the box of 1",
-        table,
-        0,
-        Want::Call(OTHER_BOX),
-    );
-    may(
-        report,
-        b"1 calls the box of 1",
-        table,
-        1,
-        Want::Call(OTHER_BOX),
-    );
+    may(report, b"0 calls the box of 1", table, 0, Call(OTHER_BOX));
+    may(report, b"1 calls the box of 1", table, 1, Call(OTHER_BOX));
     // Another mailbox is free, but not for who holds one.
-    may(
-        report,
-        b"1 takes the box of 1",
-        table,
-        1,
-        Want::Take(OTHER_BOX),
-    );
-    may(
-        report,
-        b"1 takes the box of 0",
-        table,
-        1,
-        Want::Take(OWN_BOX),
-    );
-    may(
-        report,
-        b"0 takes the box of 0",
-        table,
-        0,
-        Want::Take(OWN_BOX),
-    )
+    may(report, b"1 takes the box of 1", table, 1, Take(OTHER_BOX));
+    may(report, b"1 takes the box of 0", table, 1, Take(OWN_BOX));
+    may(report, b"0 takes the box of 0", table, 0, Take(OWN_BOX))
 }
 
 // User 0 takes level 8. Level 10 comes before it, and level 7 after it.
@@ -130,17 +83,11 @@ fn second(report: &mut Report, table: &mut Table)
     requires { length table.old ≡ 2 }
     ensures { length table.new ≡ 2 }
 {
-    may(report, b"0 takes segments", table, 0, Want::Take(SEGMENTS));
+    may(report, b"0 takes segments", table, 0, Take(SEGMENTS));
     take(table, SEGMENTS);
-    may(report, b"1 takes segments", table, 1, Want::Take(SEGMENTS));
-    may(
-        report,
-        b"0 takes directories",
-        table,
-        0,
-        Want::Take(DIRECTORIES),
-    );
-    may(report, b"0 takes pages", table, 0, Want::Take(PAGES))
+    may(report, b"1 takes segments", table, 1, Take(SEGMENTS));
+    may(report, b"0 takes directories", table, 0, Take(DIRECTORIES));
+    may(report, b"0 takes pages", table, 0, Take(PAGES))
 }
 
 // Whether a user may do what it wants.
@@ -158,7 +105,7 @@ fn take(table: &mut Table, lock: LockId)
     requires lock { IsTrue (is_lock 2 lock) }
     ensures { length table.new ≡ 2 }
 {
-    if table.enabled(0, Want::Take(lock)) {
+    if table.enabled(0, Take(lock)) {
         table.take(0, lock);
     }
 }

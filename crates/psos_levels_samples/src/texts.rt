@@ -2,7 +2,7 @@
 use psos_calls::{Kind, LevelAnswer, Refusal, Right, Tab};
 
 /// How the text of an answer begins.
-pub fn answer_text(answer: &LevelAnswer) -> &'static [u8] {
+pub fn answer_text<P>(answer: &LevelAnswer<P>) -> &'static [u8] {
     match answer {
         LevelAnswer::Done => b"done",
         LevelAnswer::Entered { .. } => b"entered ",

@@ -3,9 +3,10 @@ ghost use Rattle.std.specs.Prelude.{◌≡◌, IfOk, IfErr, OnOk, OnErr, alloc_e
 ghost use Rattle.std.specs.FinMap.{empty};
 ghost use Rattle.psos_calls.specs.declared.level.Level.TheVariants.{L11};
 ghost use Rattle.psos_calls.specs.Levels.{AddsRowAt};
+ghost use Rattle.psos_calls.specs.Levels.Answers.{with_any_page};
 ghost use Rattle.psos_calls.specs.Levels.Level11.{room, act11, Can11};
 
-use psos_calls::{Kind, LevelAnswer, LevelCall, LevelFault, Refusal, Tab};
+use psos_calls::{Kind, LevelAnswer, LevelCall, LevelFault, NoPage, Refusal, Tab};
 use psos_limits::MOST_OBJECTS;
 use psos_table::Table;
 use std::alloc::{AllocError, Global};
@@ -42,10 +43,8 @@ impl Life {
     }
 
     // Whether one more may be enrolled.
-    // It stands apart, since an answer has room for a page, and the locals of `act` are filled at each call.
-    #[inline(never)]
-    fn room(&self) -> LevelAnswer
-        ensures { result ≡ room self.now }
+    fn room(&self) -> LevelAnswer<NoPage>
+        ensures { with_any_page result ≡ room self.now }
     {
         if self.kinds.len() < MOST_OBJECTS {
             LevelAnswer::Done
@@ -54,14 +53,18 @@ impl Life {
         }
     }
 
-    /// Makes a call of level 11 (docs/levels.md, "Calls"): what it leaves and answers are those of `act11`. A refusal
-    /// is the answer `No`, and changes nothing; a call of another level is answered with `Done`. `Err` only where memory
-    /// runs out, in `Enrol` alone: the level is unchanged. Rows take their memory from the allocator of `new`;
-    /// `_alloc` stands there since the calls of all levels have one form.
-    pub fn act(&mut self, _alloc: Global, call: &LevelCall) -> Result<LevelAnswer, LevelFault>
+    /// Makes a call of level 11 (docs/levels.md, "Calls"): what it leaves and answers are those of `act11`. The
+    /// answer tells no page. A refusal is the answer `No`, and changes nothing; a call of another level is answered with
+    /// `Done`. `Err` only where memory runs out, in `Enrol` alone: the level is unchanged. Rows take their memory from the
+    /// allocator of `new`; `_alloc` stands there since the calls of all levels have one form.
+    pub fn act(
+        &mut self,
+        _alloc: Global,
+        call: &LevelCall,
+    ) -> Result<LevelAnswer<NoPage>, LevelFault>
         requires { Can11 self.old call.now }
         ensures state { OnOk result (self.new ≡ (act11 self.old call.now).0) }
-        ensures answer { IfOk result (λ a. a ≡ (act11 self.old call.now).1) }
+        ensures answer { IfOk result (λ a. with_any_page a ≡ (act11 self.old call.now).1) }
         ensures unchanged { OnErr result (self.new ≡ self.old) }
         ensures memory { IfErr result (λ fault. fault ≡ LevelFault.Memory alloc_error) }
         ensures adding { OnErr result (AddsRowAt L11 call.now) }

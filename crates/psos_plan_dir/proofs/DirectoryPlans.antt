@@ -1,5 +1,5 @@
 -- The plans that open one directory, past the opening.
-use Rattle.std.proofs.Common.{◌≡◌, ℕ, Bool, true, false, not, List, [], ◌∷◌, length, Option, Some, None, Result, Ok, Err, refl, sym, ap, subst, ◌∙◌, arith}
+use Rattle.std.proofs.Common.{◌≡◌, ℕ, Bool, true, false, not, List, [], ◌∷◌, Option, Some, None, Result, Ok, Err, refl, sym, ap, subst, ◌∙◌}
 use Rattle.std.specs.Prelude.{option_map}
 use Rattle.psos_table.specs.Table.{at as at_table}
 use Rattle.psos_caps.specs.Capability.{Capability}
@@ -14,9 +14,9 @@ use Rattle.psos_dirrep.specs.declared.found.Found.{Found}
 use Rattle.psos_dirrep.specs.Entries.{as_found}
 use Rattle.psos_calls.specs.declared.effect.Effect.{Effect}
 use Rattle.psos_calls.specs.declared.effect.Effect.TheVariants.{Nothing}
-use Rattle.psos_calls.specs.declared.level_answer.LevelAnswer.{LevelAnswer}
+use Rattle.psos_calls.specs.Levels.Answers.{LevelAnswer}
 use Rattle.psos_calls.specs.declared.level_answer.LevelAnswer.TheVariants.{Guard, No}
-use Rattle.psos_calls.specs.declared.level_call.LevelCall.{LevelCall}
+use Rattle.psos_calls.specs.Levels.Calls.{LevelCall}
 use Rattle.psos_calls.specs.declared.level_call.LevelCall.TheVariants.{DirAt, FourPut}
 use Rattle.psos_calls.specs.declared.next.Next.{Next}
 use Rattle.psos_calls.specs.declared.next.Next.TheVariants as nexts
@@ -204,18 +204,14 @@ if-found o found missing go e =
 pub if-missing : (o : Option SlotFound) (missing : Plan) (go : SlotFound → Plan) → ◌≡◌ {A = Option Found} None (option_map as_found o) → if_there o missing go ≡ missing
 if-missing o missing go e = ap (λ (x : Option SlotFound). if_there x missing go) (found-none o e)
 
-pub nothing-is : {X : Type 0} (xs : List X) → length xs ≡ 0 → xs ≡ []
-nothing-is [] e = refl
-nothing-is (x ∷ xs) e = absurd (omega (arith, e))
-
 -- with no call the whole plan is left
 pub followed-none : (p : Plan) → followed p [] ≡ p
 followed-none (Close reply effect) = refl
 followed-none (Ask call go) = refl
 
 -- a plan that asks, and no call was made since
-pub asks-next : (p : Plan) (call : LevelCall) (go : LevelAnswer → Plan) (rest : List Step) → p ≡ Ask call go → length rest ≡ 0 → nexts.Call (level_of call) call ≡ next_of (followed p rest)
-asks-next p call go rest e none = sym (ap (λ (t : List Step). next_of (followed p t)) (nothing-is rest none) ∙ ap (λ (x : Plan). next_of (followed x [])) e)
+pub asks-next : (p : Plan) (call : LevelCall) (go : LevelAnswer → Plan) (rest : List Step) → p ≡ Ask call go → rest ≡ [] → nexts.Call (level_of call) call ≡ next_of (followed p rest)
+asks-next p call go rest e none = sym (ap (λ (t : List Step). next_of (followed p t)) none ∙ ap (λ (x : Plan). next_of (followed x [])) e)
 
 -- the next step of a plan by what the plan is
 pub next-by : (p q : Plan) (rest : List Step) → p ≡ q → next_of (followed q rest) ≡ next_of (followed p rest)

@@ -13,7 +13,7 @@ use Rattle.psos_dirrep.specs.Pages.{words_of}
 use Rattle.psos_dirrep.specs.EntryLists.{entry_list}
 use Rattle.psos_calls.specs.declared.kind.Kind.TheVariants.{Directory}
 use Rattle.psos_calls.specs.declared.level.Level.TheVariants.{L7}
-use Rattle.psos_calls.specs.declared.level_answer.LevelAnswer.{LevelAnswer}
+use Rattle.psos_calls.specs.Levels.Answers.{LevelAnswer}
 use Rattle.psos_calls.specs.declared.level_answer.LevelAnswer.TheVariants.{Guard, Rep, Slot, No}
 use Rattle.psos_calls.specs.declared.level_call.LevelCall.TheVariants.{DirAt, RepOf, SlotOf, PageGet}
 use Rattle.psos_calls.specs.declared.next.Next.TheVariants.{Call}
@@ -61,15 +61,15 @@ module _ (slot : ℕ) (trace pages rest : List Step) (f : IsSlotFront slot trace
       by (over stop o) = absurd (true≢false (sym is ∙ stop))
       by (more on nothing m) = m.few
 
-  pub slot-more : is_more 8 [] pages rest ≡ true → IsNext (read_pages 8 slot 0 []) trace (Call L7 (PageGet (8 * slot + length pages)))
-  slot-more is = by walked
+  pub slot-more : is_more 8 [] pages rest ≡ true → (k : ℕ) → k ≡ length pages → IsNext (read_pages 8 slot 0 []) trace (Call L7 (PageGet (8 * slot + k)))
+  slot-more is k count = by walked
     where
-      by : Walked 8 slot 0 [] [] pages rest held.entry_slots → IsNext (read_pages 8 slot 0 []) trace (Call L7 (PageGet (8 * slot + length pages)))
+      by : Walked 8 slot 0 [] [] pages rest held.entry_slots → IsNext (read_pages 8 slot 0 []) trace (Call L7 (PageGet (8 * slot + k)))
       by (over stop o) = absurd (true≢false (sym is ∙ stop))
       by (more on nothing m) =
           let all : trace ≡ pages = sym both ∙ ap (λ (rs : List Step). pages ++ rs) nothing ∙ append-nil pages in
-          let place : 8 * slot + (0 + length pages) ≡ 8 * slot + length pages = omega arith in
-          subst (λ (t : List Step). IsNext (read_pages 8 slot 0 []) t (Call L7 (PageGet (8 * slot + length pages)))) (sym all) (record { is = λ go. m.is go ∙ ap (λ (x : ℕ). Call L7 (PageGet x)) place })
+          let place : 8 * slot + (0 + length pages) ≡ 8 * slot + k = omega (arith, count) in
+          subst (λ (t : List Step). IsNext (read_pages 8 slot 0 []) t (Call L7 (PageGet (8 * slot + k)))) (sym all) (record { is = λ go. m.is go ∙ ap (λ (x : ℕ). Call L7 (PageGet x)) place })
 
   whole : is_more 8 [] pages rest ≡ false → Over 8 slot 0 [] pages rest held.entry_slots
   whole is = by walked
@@ -149,7 +149,7 @@ pub record IsGuarded (dirs : DirState) (u : ℕ) : Type 0 where
 pub guard-live : (dirs : DirState) (cap : Capability) (right : Right) (guard : Rights) → dir_at dirs cap right ≡ Guard guard → IsGuarded dirs cap.uid
 guard-live dirs cap right guard e = by (at dirs cap.uid) refl e
   where
-    by : (o : Option Rights) → at dirs cap.uid ≡ o → if_there o (No (Absent Directory)) (λ g. if_holds (has cap right) (No (Lacks right)) (Guard g)) ≡ Guard guard → IsGuarded dirs cap.uid
+    by : (o : Option Rights) → at dirs cap.uid ≡ o → ◌≡◌ {A = LevelAnswer} (if_there o (No (Absent Directory)) (λ g. if_holds (has cap right) (No (Lacks right)) (Guard g))) (Guard guard) → IsGuarded dirs cap.uid
     by None is e = absurd (no_guard (Absent Directory) e)
       where
         no_guard : (r : Refusal) → ◌≡◌ {A = LevelAnswer} (No r) (Guard guard) → ⊥

@@ -1,6 +1,6 @@
 -- The plan of find: past the directories that did not have the name.
 use Rattle.std.proofs.Common.{◌≡◌, ℕ, zero, suc, ◌+◌, ◌*◌, ◌≤◌, Bool, true, false, cond, List, [], ◌∷◌, ◌++◌, length, take, drop, Option, Some, None, refl, sym, ap, subst, ◌∙◌, inl, inr, arith}
-use Rattle.std.specs.Prelude.{◌⊎◌, option_map, slice_get}
+use Rattle.std.specs.Prelude.{option_map, slice_get}
 use Rattle.std.proofs.lemmas.Bool.{true≢false}
 use Rattle.std.proofs.lemmas.List.{take-append-drop}
 use Rattle.std.proofs.lemmas.Option.{same_Some, none-some}
@@ -15,9 +15,9 @@ use Rattle.psos_dirrep.specs.declared.found.Found.{Found}
 use Rattle.psos_dirrep.specs.Entries.{as_found}
 use Rattle.psos_calls.specs.declared.effect.Effect.TheVariants.{Put}
 use Rattle.psos_calls.specs.declared.level.Level.TheVariants.{L10}
-use Rattle.psos_calls.specs.declared.level_answer.LevelAnswer.{LevelAnswer}
+use Rattle.psos_calls.specs.Levels.Answers.{LevelAnswer}
 use Rattle.psos_calls.specs.declared.level_answer.LevelAnswer.TheVariants.{Guard}
-use Rattle.psos_calls.specs.declared.level_call.LevelCall.{LevelCall}
+use Rattle.psos_calls.specs.Levels.Calls.{LevelCall}
 use Rattle.psos_calls.specs.declared.level_call.LevelCall.TheVariants.{DirAt, RepOf, SlotOf, PageGet}
 use Rattle.psos_calls.specs.declared.next.Next.{Next}
 use Rattle.psos_calls.specs.declared.next.Next.TheVariants.{Call, Close}
@@ -31,11 +31,11 @@ use Rattle.psos_calls.specs.Levels.Level9.{rep_of}
 use Rattle.psos_calls.specs.Levels.{Levels, act}
 use Rattle.psos_calls.specs.Plan.{Plan, Ask, refuse, give, if_rep, if_slot, if_page}
 use Rattle.psos_calls.specs.Language.Capabilities.{uid}
+use Rattle.psos_calls.specs.Plan.Asked.{asks_dir, asked, BeginsWithDir, IsSinceDir}
 use Rattle.psos_calls.specs.Plan.Directories.{plan_find, if_may_look}
 use Rattle.psos_calls.specs.Plan.Parts.{Opened, opened, read_pages, read_rep, read_dir}
 use Rattle.psos_calls.specs.Language.Tests.{if_there}
 use Rattle.psos_calls.specs.Plan.Trace.{followed, next_of, IsTraceOf}
-use Rattle.psos_plan_dir.specs.Asked.{asks_dir, asked, BeginsWithDir}
 use Rattle.psos_plan_dir.specs.Reads.{Reader, IsNoPage, IsRun, IsDirFront, IsNext, GoesOn, IsRead}
 use Rattle.psos_plan_dir.proofs.DirectoryPlans.{found-none, past-is, past-next, past-read, past-run, asks-next, next-by, if-found}
 use Rattle.psos_plan_dir.proofs.DirectoryReaders.{guard-live}
@@ -92,7 +92,7 @@ module _ (path : List Capability) (i rd : ℕ) (name : Name) (dir : Capability) 
   from_here : plan_find (drop i path) rd name ≡ looks_in dir After (found_or After rd name)
   from_here = ap (λ (l : List Capability). plan_find l rd name) (drop-get path i dir there)
 
-  pub find-asks : (rest : List Step) → length rest ≡ 0 → Call L10 (DirAt dir Lookup) ≡ next_of (followed (plan_find (drop i path) rd name) rest)
+  pub find-asks : (rest : List Step) → rest ≡ [] → Call L10 (DirAt dir Lookup) ≡ next_of (followed (plan_find (drop i path) rd name) rest)
   find-asks rest none = asks-next (plan_find (drop i path) rd name) (DirAt dir Lookup) (λ a. if_may_look a After (read_dir dir.uid (found_or After rd name))) rest from_here none
 
   module _ (trace : List Step) (a : Step) (rest : List Step) (at : trace ≡ a ∷ rest) where
@@ -266,19 +266,23 @@ module _ (l : Levels) (s : Step) (tail : List Step) (is_dir : asks_dir s.call �
 -- ---- from the last call for a directory on
 
 -- the plan goes on with the directories from there on
-pub record Resumed (path : List Capability) (rd : ℕ) (name : Name) (trace front rest : List Step) : Type 0 where
-  pub is : followed (plan_find path rd name) trace ≡ followed (plan_find (drop (asked front) path) rd name) rest
-  pub run : IsRun (plan_find (drop (asked front) path) rd name) rest
+pub record Resumed (path : List Capability) (rd : ℕ) (name : Name) (trace : List Step) (passed : ℕ) (rest : List Step) : Type 0 where
+  pub is : followed (plan_find path rd name) trace ≡ followed (plan_find (drop passed path) rd name) rest
+  pub run : IsRun (plan_find (drop passed path) rd name) rest
 
-pub resumed : (path : List Capability) (rd : ℕ) (name : Name) (n : ℕ) (trace : List Step) → (n ≡ 0) ⊎ BeginsWithDir (drop n trace) → IsRun (plan_find path rd name) trace → Resumed path rd name trace (take n trace) (drop n trace)
-resumed path rd name n trace at r = elim at [
-  | inl none ↦ subst (λ (m : ℕ). Resumed path rd name trace (take m trace) (drop m trace)) (sym none) (record { is = refl; run = r })
-  | inr begins ↦ by (drop n trace) refl begins
-]
+pub resumed : (path : List Capability) (rd : ℕ) (name : Name) (trace : List Step) (passed : ℕ) (rest : List Step) → IsSinceDir trace passed rest → IsRun (plan_find path rd name) trace → Resumed path rd name trace passed rest
+resumed path rd name trace passed rest since r =
+    let n = since.at in
+    let there : Resumed path rd name trace (asked (take n trace)) (drop n trace) = elim since.first [
+      | inl none ↦ subst (λ (m : ℕ). Resumed path rd name trace (asked (take m trace)) (drop m trace)) (sym none) (record { is = refl; run = r })
+      | inr begins ↦ by n (drop n trace) refl begins
+    ] in
+    let counted = subst (λ (m : ℕ). Resumed path rd name trace m (drop n trace)) (sym since.count) there in
+    subst (Resumed path rd name trace passed) (sym since.is) counted
   where
-    by : (rest : List Step) → drop n trace ≡ rest → BeginsWithDir rest → Resumed path rd name trace (take n trace) rest
-    by [] e begins = absurd begins
-    by (s ∷ tail) e begins =
+    by : (n : ℕ) (rest : List Step) → drop n trace ≡ rest → BeginsWithDir rest → Resumed path rd name trace (asked (take n trace)) rest
+    by n [] e begins = absurd begins
+    by n (s ∷ tail) e begins =
         let both : trace ≡ take n trace ++ s ∷ tail = sym (take-append-drop n trace) ∙ ap (λ (t : List Step). take n trace ++ t) e in
         let skip = skipped r.levels s tail begins path rd name (take n trace) (subst (λ (t : List Step). IsTraceOf (plan_find path rd name) r.levels t) both r.front) in
         record {

@@ -1,28 +1,29 @@
 -- The pages of a directory in a trace: one more is to be read, or they are the whole.
-use Rattle.std.proofs.Common.{◌≡◌, ℕ, zero, suc, ◌+◌, ◌*◌, ◌-◌, ◌<◌, ◌≤◌, Bool, true, false, cond, ◌&&◌, not, List, [], ◌∷◌, ◌++◌, length, take, drop, append-nil, append_assoc, Option, Some, refl, sym, ap, subst, ◌∙◌, arith}
-use Rattle.std.specs.Prelude.{nat_lt, slice_get}
+use Rattle.std.proofs.Common.{◌≡◌, ℕ, zero, suc, ◌+◌, ◌*◌, ◌-◌, ◌<◌, ◌≤◌, Bool, true, false, cond, ◌&&◌, not, List, [], ◌∷◌, ◌++◌, length, take, drop, append-nil, append_assoc, Option, Some, None, refl, sym, ap, subst, ◌∙◌, arith}
+use Rattle.std.specs.Prelude.{nat_lt, slice_get, get_or}
 use Rattle.std.specs.List.{AllByRecursion}
 use Rattle.std.proofs.lemmas.Bool.{true≢false}
 use Rattle.std.proofs.lemmas.Bool.Decides.{nat_tests}
-use Rattle.std.proofs.lemmas.Option.{same_Some, none-some}
+use Rattle.std.proofs.lemmas.Option.{same_Some, none-some, slice_get-get_or}
 use Rattle.psos_words.specs.declared.word.Word.{Word}
 use Rattle.psos_words.specs.Directory.{Slot, decode, has_never}
 use Rattle.psos_dirrep.specs.Pages.{words_of, ArePages}
 use Rattle.psos_calls.specs.declared.step.Step.{Step}
 use Rattle.psos_calls.specs.declared.level.Level.TheVariants.{L7}
 use Rattle.psos_calls.specs.declared.next.Next.TheVariants.{Call}
-use Rattle.psos_calls.specs.declared.level_call.LevelCall.{LevelCall}
+use Rattle.psos_calls.specs.Levels.Calls.{LevelCall}
 use Rattle.psos_calls.specs.declared.level_call.LevelCall.TheVariants.{PageGet}
-use Rattle.psos_calls.specs.declared.level_answer.LevelAnswer.{LevelAnswer}
+use Rattle.psos_calls.specs.Levels.Answers.{LevelAnswer}
 use Rattle.psos_calls.specs.declared.level_answer.LevelAnswer.TheVariants.{Whole}
 use Rattle.psos_calls.specs.declared.refusal.Refusal.TheVariants.{Range}
 use Rattle.psos_calls.specs.Language.Tests.{if_there}
-use Rattle.psos_calls.specs.Levels.Level7.{page_words, slot_words}
+use Rattle.psos_calls.specs.Levels.Level7.{page_words, slot_words, reads_page}
 use Rattle.psos_calls.specs.Levels.{Levels}
 use Rattle.psos_calls.specs.Plan.{Plan, Ask, Close, refuse, if_page}
 use Rattle.psos_calls.specs.Plan.Parts.{Opened, opened, read_pages}
+use Rattle.psos_calls.specs.Plan.Steps.{is_nothing}
 use Rattle.psos_calls.specs.Plan.Trace.{followed, next_of, IsTraceOf}
-use Rattle.psos_plan_dir.specs.Pages.{reads_page, pages_first, page_in, pages_in, last_page, is_nothing, is_more, IsWhole}
+use Rattle.psos_plan_dir.specs.Pages.{pages_first, page_in, pages_in, last_page, is_more, IsWhole}
 use Rattle.psos_plan_dir.specs.Reads.{Reader, IsNoPage, GoesOn}
 use Rattle.psos_plan_dir.proofs.Representations.{HoldsList, Before, page-long, front-is, front-never, front-decodes, all-pages, list-never}
 use Rattle.psos_plan_dir.proofs.PlanSteps.{goes-then, ask-on}
@@ -220,6 +221,11 @@ last-is other (p ∷ []) s e = ap (λ (t : Step). page_in t.answer) (same_Some p
 last-is other (p ∷ q ∷ pages) s e =
     let later : slice_get (q ∷ pages) (length (q ∷ pages) - 1) ≡ Some s = ap (λ (i : ℕ). slice_get (q ∷ pages) i) {x = suc (length pages) - 1} {y = length pages} (omega arith) ∙ ap (λ (i : ℕ). slice_get (p ∷ q ∷ pages) i) {x = suc (length pages)} {y = suc (suc (length pages)) - 1} (omega arith) ∙ e in
     last-is (page_in p.answer) (q ∷ pages) s later
+
+-- there is none
+pub last-none : (other : List Word) (pages : List Step) → slice_get pages (length pages - 1) ≡ None → last_page other pages ≡ other
+last-none other [] e = refl
+last-none other (p ∷ pages) e = absurd (none-some (get_or (p ∷ pages) (length (p ∷ pages) - 1) p) (sym e ∙ slice_get-get_or (p ∷ pages) (length (p ∷ pages) - 1) p (omega arith)))
 
 -- calls that read pages in front, and the first that does not
 pub split-read : (trace : List Step) → AllRead (take (pages_first trace) trace) × NoneFirst (drop (pages_first trace) trace)

@@ -1,8 +1,8 @@
 -- A plan that reads a directory, one call after another.
 use Rattle.std.proofs.Common.{◌≡◌, List, ◌∷◌, sym, ap, subst, ◌∙◌}
 use Rattle.psos_calls.specs.declared.step.Step.{Step}
-use Rattle.psos_calls.specs.declared.level_call.LevelCall.{LevelCall}
-use Rattle.psos_calls.specs.declared.level_answer.LevelAnswer.{LevelAnswer}
+use Rattle.psos_calls.specs.Levels.Calls.{LevelCall}
+use Rattle.psos_calls.specs.Levels.Answers.{LevelAnswer}
 use Rattle.psos_calls.specs.Levels.{Levels, act}
 use Rattle.psos_calls.specs.Plan.{Plan, Ask}
 use Rattle.psos_calls.specs.Plan.Parts.{Opened}
@@ -16,7 +16,7 @@ goes-then before middle after trace between rest a b = record { is = λ go. a.is
 
 pub reads-on : (before after : Reader) (trace rest : List Step) → GoesOn before after trace rest → (r : Reading) → Reads after rest r → Reads before trace r
 reads-on before after trace rest g (readings.Next n) h = record { is = λ go. ap next_of (g.is go) ∙ h.is go }
-reads-on before after trace rest g (readings.Done d more) h = goes-then before after (λ go. go d) trace rest more.now g h
+reads-on before after trace rest g (readings.Done d more) h = goes-then before after (λ go. go d) trace rest more g h
 
 -- a call that changes nothing, and its answer
 pub ask-on : (call : LevelCall) (cont : (Opened → Plan) → LevelAnswer → Plan) (after : Reader) (a : Step) (rest : List Step) (answer : LevelAnswer)

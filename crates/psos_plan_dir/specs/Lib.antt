@@ -1,4 +1,3 @@
-pub mod Asked
 pub mod Collected
 pub mod Kinds
 pub mod Listing

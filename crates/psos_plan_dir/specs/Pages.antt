@@ -1,5 +1,5 @@
 -- The pages that calls of a trace answered. States docs/requests.md, "Plans".
-use Rattle.std.specs.Prelude.{ℕ, ◌<◌, suc, ◌&&◌, Bool, true, false, not, List, [], ◌∷◌, length, IsTrue, nat_lt, if◌then◌else◌}
+use Rattle.std.specs.Prelude.{ℕ, ◌<◌, suc, ◌&&◌, Bool, not, List, [], ◌∷◌, length, IsTrue, nat_lt, if◌then◌else◌}
 use Rattle.std.specs.List.{AllByRecursion}
 use Rattle.psos_limits.specs.declared.TheConstants.{SLOTS}
 use Rattle.psos_words.specs.declared.word.Word.{Word}
@@ -7,16 +7,11 @@ use Rattle.psos_words.specs.Directory.{has_never}
 use Rattle.psos_dirrep.specs.Pages.{words_of}
 use Rattle.psos_dirrep.specs.EntryLists.{entry_list, IsEntryList}
 use Rattle.psos_calls.specs.declared.step.Step.{Step}
-use Rattle.psos_calls.specs.declared.level_call.LevelCall.{LevelCall}
-use Rattle.psos_calls.specs.declared.level_call.LevelCall.TheVariants.{PageGet}
-use Rattle.psos_calls.specs.declared.level_answer.LevelAnswer.{LevelAnswer}
+use Rattle.psos_calls.specs.Levels.Answers.{LevelAnswer}
 use Rattle.psos_calls.specs.declared.level_answer.LevelAnswer.TheVariants.{Whole}
+use Rattle.psos_calls.specs.Levels.Level7.{reads_page}
 use Rattle.psos_calls.specs.Plan.Parts.{Opened}
-
--- the call reads a page
-abbrev pub reads_page : LevelCall → Bool
-reads_page (PageGet page) = true
-reads_page _ = false
+use Rattle.psos_calls.specs.Plan.Steps.{is_nothing}
 
 -- how many calls in front read pages
 abbrev pub pages_first : List Step → ℕ
@@ -37,10 +32,6 @@ pages_in (s ∷ rest) = page_in s.answer ∷ pages_in rest
 abbrev pub last_page : List Word → List Step → List Word
 last_page other [] = other
 last_page other (s ∷ rest) = last_page (page_in s.answer) rest
-
-abbrev pub is_nothing : List Step → Bool
-is_nothing [] = true
-is_nothing (s ∷ rest) = false
 
 -- after calls that read pages, with these calls behind them, one more page is to be read: there are fewer than so many,
 -- and the last of them tells of no slot that was never used

@@ -92,4 +92,4 @@ IsRead reads trace d rest = GoesOn reads (λ go. go d) trace rest
 
 abbrev pub Reads : Reader → List Step → Reading → Type 0
 Reads reads trace (readings.Next next) = IsNext reads trace next
-Reads reads trace (readings.Done d rest) = IsRead reads trace d rest.now
+Reads reads trace (readings.Done d rest) = IsRead reads trace d rest

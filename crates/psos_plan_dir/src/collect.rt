@@ -8,7 +8,7 @@ ghost use Rattle.psos_calls.specs.Plan.Objects.{no_entry};
 ghost use Rattle.psos_plan_dir.specs.Collected.{collected, name_in, none_used, read_name, with_name, with_names, IsNamed};
 ghost use Rattle.psos_plan_dir.specs.Pages.{IsWhole, pages_in};
 
-use psos_calls::{LevelAnswer, Names, Step};
+use psos_calls::{LevelAnswer, Names, StepSlice};
 use psos_dirrep::name_from;
 use psos_text::Name;
 use psos_words::{Page, Word};
@@ -16,7 +16,7 @@ use std::alloc::{AllocError, Global};
 use std::collections::BTreeSet;
 
 // Whether no slot on these pages is used.
-pub(crate) fn none_used(calls: &[Step]) -> bool
+pub(crate) fn none_used(calls: &StepSlice<'_>) -> bool
     requires whole { AllByRecursion (λ (s : Made). IsWhole s.answer) calls.now }
     requires slots { AllByRecursion AreSlots (pages_in calls.now) }
     requires are { ArePages (pages_in calls.now) }
@@ -28,10 +28,10 @@ pub(crate) fn none_used(calls: &[Step]) -> bool
     let LevelAnswer::Whole(page) = &call.answer else {
         unreachable!();
     };
-    if !is_empty(page) {
+    if !is_empty(page.page()) {
         return false;
     }
-    none_used(rest)
+    none_used(&rest)
 }
 
 // Whether no slot of a page is used.
@@ -61,7 +61,7 @@ fn is_used(page: &Page, k: u8) -> bool
 }
 
 // The names on these pages, in order. `Err` only where memory runs out.
-pub(crate) fn collected(alloc: Global, calls: &[Step]) -> Result<BTreeSet<Name>, AllocError>
+pub(crate) fn collected(alloc: Global, calls: &StepSlice<'_>) -> Result<BTreeSet<Name>, AllocError>
     requires whole { AllByRecursion (λ (s : Made). IsWhole s.answer) calls.now }
     requires slots { AllByRecursion AreSlots (pages_in calls.now) }
     requires are { ArePages (pages_in calls.now) }
@@ -73,8 +73,8 @@ pub(crate) fn collected(alloc: Global, calls: &[Step]) -> Result<BTreeSet<Name>,
     let LevelAnswer::Whole(page) = &call.answer else {
         unreachable!();
     };
-    let mut names = collected(alloc, rest)?;
-    put_names(&mut names, page)?;
+    let mut names = collected(alloc, &rest)?;
+    put_names(&mut names, page.page())?;
     Ok(names)
 }
 

@@ -14,17 +14,17 @@ ghost use Rattle.psos_plan_dir.specs.Reads.{IsRun};
 use crate::close::done;
 use crate::{Open, Reading, open_dir, read_dir};
 use psos_calls::close::{give, refuse};
-use psos_calls::{Level, LevelAnswer, LevelCall, Next, Private, Refusal, Right, Step};
+use psos_calls::{Level, LevelAnswer, LevelCall, Next, Private, Refusal, Right, StepSlice};
 use psos_dirrep::{Found, entry_words, gone_words};
 use psos_guards::admits;
 use psos_text::Name;
 use psos_words::Word;
 
-pub(crate) fn next_lookup(me: &Private, rd: u8, rs: u8, name: &Name, trace: &[Step]) -> Next
+pub(crate) fn next_lookup(me: &Private, rd: u8, rs: u8, name: &Name, trace: StepSlice<'_>) -> Next
     requires source { rs < 16 }
     requires named { IsName name.now }
-    requires run { IsRun (plan_lookup (here me.now) rd rs name.now) trace.now }
-    ensures { result ≡ next_of (followed (plan_lookup (here me.now) rd rs name.now) trace.now) }
+    requires run { IsRun (plan_lookup (here me.now) rd rs name.now) trace }
+    ensures { result ≡ next_of (followed (plan_lookup (here me.now) rd rs name.now) trace.entry) }
 {
     let Word::Cap(cap) = me.here(rs) else {
         return refuse(Refusal::NotCap);
@@ -39,11 +39,11 @@ pub(crate) fn next_lookup(me: &Private, rd: u8, rs: u8, name: &Name, trace: &[St
     }
 }
 
-pub(crate) fn next_unbind(me: &Private, rs: u8, name: &Name, trace: &[Step]) -> Next
+pub(crate) fn next_unbind(me: &Private, rs: u8, name: &Name, trace: StepSlice<'_>) -> Next
     requires source { rs < 16 }
     requires named { IsName name.now }
-    requires run { IsRun (plan_unbind (here me.now) rs name.now) trace.now }
-    ensures { result ≡ next_of (followed (plan_unbind (here me.now) rs name.now) trace.now) }
+    requires run { IsRun (plan_unbind (here me.now) rs name.now) trace }
+    ensures { result ≡ next_of (followed (plan_unbind (here me.now) rs name.now) trace.entry) }
 {
     let Word::Cap(cap) = me.here(rs) else {
         return refuse(Refusal::NotCap);
@@ -72,12 +72,12 @@ fn remove(dir: &Open<'_>, found: Found) -> Next
     dir.write(found.slot, gone_words())
 }
 
-pub(crate) fn next_bind(me: &Private, rs: u8, name: &Name, rv: u8, trace: &[Step]) -> Next
+pub(crate) fn next_bind(me: &Private, rs: u8, name: &Name, rv: u8, trace: StepSlice<'_>) -> Next
     requires source { rs < 16 }
     requires value { rv < 16 }
     requires named { IsName name.now }
-    requires run { IsRun (plan_bind (here me.now) rs name.now rv) trace.now }
-    ensures { result ≡ next_of (followed (plan_bind (here me.now) rs name.now rv) trace.now) }
+    requires run { IsRun (plan_bind (here me.now) rs name.now rv) trace }
+    ensures { result ≡ next_of (followed (plan_bind (here me.now) rs name.now rv) trace.entry) }
 {
     let Word::Cap(cap) = me.here(rs) else {
         return refuse(Refusal::NotCap);

@@ -8,7 +8,7 @@ ghost use Rattle.psos_plan_dir.specs.Reads.{IsRun};
 
 use crate::{Reading, open_dir};
 use psos_calls::close::refuse;
-use psos_calls::{Effect, Next, Private, Refusal, Reply, Right, Step};
+use psos_calls::{Effect, Next, Private, Refusal, Reply, Right, StepSlice};
 use psos_words::Word;
 use std::alloc::{AllocError, Global};
 
@@ -16,12 +16,12 @@ pub(crate) fn next_list(
     alloc: Global,
     me: &Private,
     rs: u8,
-    trace: &[Step],
+    trace: StepSlice<'_>,
 ) -> Result<Next, AllocError>
     requires source { rs < 16 }
-    requires run { IsRun (plan_list (here me.now) rs) trace.now }
-    ensures answer { IfOk result (λ n. n ≡ next_of (followed (plan_list (here me.now) rs) trace.now)) }
-    ensures memory { OnErr result (TellsNames (followed (plan_list (here me.now) rs) trace.now)) }
+    requires run { IsRun (plan_list (here me.now) rs) trace }
+    ensures answer { IfOk result (λ n. n ≡ next_of (followed (plan_list (here me.now) rs) trace.entry)) }
+    ensures memory { OnErr result (TellsNames (followed (plan_list (here me.now) rs) trace.entry)) }
 {
     let Word::Cap(cap) = me.here(rs) else {
         return Ok(refuse(Refusal::NotCap));

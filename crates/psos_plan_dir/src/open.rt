@@ -13,7 +13,7 @@ ghost use Rattle.psos_plan_dir.specs.Pages.{IsOpen, IsWhole, opened_by, pages_in
 ghost use Rattle.psos_plan_dir.specs.Room.{room_for};
 
 use crate::collect::{collected, listed, none_used};
-use psos_calls::{Level, LevelAnswer, LevelCall, Names, Next, Refusal, Step, Tab};
+use psos_calls::{Level, LevelAnswer, LevelCall, Names, Next, Refusal, StepSlice, Tab};
 use psos_dirrep::{Found, entry_slot, find_on, free_on};
 use psos_text::Name;
 use psos_words::Word;
@@ -26,7 +26,7 @@ use std::marker::Model;
 #[derive(Drop)]
 pub struct Open<'a> {
     slot: u16,
-    calls: &'a [Step],
+    calls: StepSlice<'a>,
 }
 
 impl<'a> Model for Open<'a> {
@@ -35,16 +35,16 @@ impl<'a> Model for Open<'a> {
 
     ghost Value = { Opened };
 
-    ghost view = { λ o. opened_by o.slot o.calls.now };
+    ghost view = { λ o. opened_by o.slot o.calls };
 
-    ghost invariant = { λ o. IsOpen o.slot o.calls.now };
+    ghost invariant = { λ o. IsOpen o.slot o.calls };
 }
 
 impl<'a> Open<'a> {
     // The directory whose pages these calls read.
-    pub(crate) fn of(slot: u16, calls: &'a [Step]) -> Open<'a>
-        requires { IsOpen slot calls.now }
-        ensures { result ≡ opened_by slot calls.now }
+    pub(crate) fn of(slot: u16, calls: StepSlice<'a>) -> Open<'a>
+        requires { IsOpen slot calls }
+        ensures { result ≡ opened_by slot calls.entry }
     {
         Open { slot, calls }
     }
@@ -92,21 +92,21 @@ impl<'a> Open<'a> {
         requires { IsName name.now }
         ensures { result ≡ option_map as_found (find self.now.slots name.now) }
     {
-        find_from(self.calls, 0, name)
+        find_from(&self.calls, 0, name)
     }
 
     /// The least slot that is not used. None exactly where all 127 are.
     pub fn free_slot(&self) -> Option<u8>
         ensures { result ≡ slot_for self.now.slots }
     {
-        entry_slot(free_from(self.calls, 0))
+        entry_slot(free_from(&self.calls, 0))
     }
 
     /// Whether it has no entry.
     pub fn is_empty(&self) -> bool
         ensures { result ≡ is_empty self.now }
     {
-        none_used(self.calls)
+        none_used(&self.calls)
     }
 
     /// The names of its entries, in the order of their bytes. `Err` only where memory runs out, and leaves nothing
@@ -114,13 +114,13 @@ impl<'a> Open<'a> {
     pub fn names(&self, alloc: Global) -> Result<Names, AllocError>
         ensures { IfOk result (λ names. names ≡ names_of (entries_in self.now.slots)) }
     {
-        let names = collected(alloc, self.calls)?;
+        let names = collected(alloc, &self.calls)?;
         listed(alloc, &names)
     }
 }
 
 // The entry of a name on pages of which the first begins with this slot.
-fn find_from(calls: &[Step], base: u8, name: &Name) -> Option<Found>
+fn find_from(calls: &StepSlice<'_>, base: u8, name: &Name) -> Option<Found>
     requires named { IsName name.now }
     requires few { base + 16 * length calls.now ≤ 128 }
     requires whole { AllByRecursion (λ (s : Made). IsWhole s.answer) calls.now }
@@ -133,14 +133,14 @@ fn find_from(calls: &[Step], base: u8, name: &Name) -> Option<Found>
     let LevelAnswer::Whole(page) = &call.answer else {
         unreachable!();
     };
-    match find_on(page, base, name) {
+    match find_on(page.page(), base, name) {
         Some(found) => Some(found),
-        None => find_from(rest, base + 16, name),
+        None => find_from(&rest, base + 16, name),
     }
 }
 
 // The least slot that is not used on pages of which the first begins with this slot.
-fn free_from(calls: &[Step], base: u8) -> Option<u8>
+fn free_from(calls: &StepSlice<'_>, base: u8) -> Option<u8>
     requires few { base + 16 * length calls.now ≤ 128 }
     requires whole { AllByRecursion (λ (s : Made). IsWhole s.answer) calls.now }
     requires slots { AllByRecursion AreSlots (pages_in calls.now) }
@@ -152,8 +152,8 @@ fn free_from(calls: &[Step], base: u8) -> Option<u8>
     let LevelAnswer::Whole(page) = &call.answer else {
         unreachable!();
     };
-    match free_on(page, base) {
+    match free_on(page.page(), base) {
         Some(k) => Some(k),
-        None => free_from(rest, base + 16),
+        None => free_from(&rest, base + 16),
     }
 }

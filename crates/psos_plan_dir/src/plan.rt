@@ -26,13 +26,13 @@ pub fn next(alloc: Global, req: &Request, me: &Private, trace: &Trace) -> Result
     ensures answer { IfOk result (λ n. n ≡ next_of (followed (plan_of me.now req.now) trace.now)) }
     ensures memory { OnErr result (IsListing req.now (followed (plan_of me.now req.now) trace.now)) }
 {
-    let trace = trace.as_slice();
+    let steps = trace.as_slice();
     match *req {
-        Request::Lookup { rd, rs, name } => Ok(next_lookup(me, rd, rs, &name, trace)),
-        Request::Bind { rs, name, rv } => Ok(next_bind(me, rs, &name, rv, trace)),
-        Request::Unbind { rs, name } => Ok(next_unbind(me, rs, &name, trace)),
-        Request::List { rs } => next_list(alloc, me, rs, trace),
-        Request::Path { rs } => Ok(next_path(me, rs, trace)),
+        Request::Lookup { rd, rs, name } => Ok(next_lookup(me, rd, rs, &name, steps)),
+        Request::Bind { rs, name, rv } => Ok(next_bind(me, rs, &name, rv, steps)),
+        Request::Unbind { rs, name } => Ok(next_unbind(me, rs, &name, steps)),
+        Request::List { rs } => next_list(alloc, me, rs, steps),
+        Request::Path { rs } => Ok(next_path(me, rs, steps)),
         Request::Find { rd, name } => Ok(next_find(me, rd, &name, trace)),
         _ => unreachable!(),
     }

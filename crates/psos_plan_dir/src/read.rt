@@ -1,21 +1,22 @@
 // A directory is read, after the answers so far.
 ghost use Rattle.std.specs.Prelude.{◌≡◌, ◌≤◌, [], length};
 ghost use Rattle.psos_words.specs.Directory.{has_never};
+ghost use Rattle.psos_calls.specs.Levels.Level7.{reads_page as page_read};
 ghost use Rattle.psos_calls.specs.Plan.Parts.{read_dir as dir_read, read_pages as pages_read, read_rep as rep_read};
-ghost use Rattle.psos_plan_dir.specs.Pages.{is_more as more, last_page, pages_first as counted, reads_page as page_read};
+ghost use Rattle.psos_plan_dir.specs.Pages.{is_more as more, last_page, pages_first as counted};
 ghost use Rattle.psos_plan_dir.specs.Reads.{open_with, IsCapFront, IsDirFront, IsRepFront, IsSlotFront, Reads};
 
 use crate::{Open, Reading};
 use psos_calls::close::refuse;
-use psos_calls::{Level, LevelAnswer, LevelCall, Next, Refusal, Right, Step};
+use psos_calls::{Level, LevelAnswer, LevelCall, Next, Refusal, Right, StepSlice};
 use psos_caps::{Cap, Uid};
 use psos_dirrep::has_never;
 
 /// Opens a directory by a capability with a right (docs/requests.md, "Plans"): `DirAt`, and what `read_dir` reads. Its
 /// guard is not looked at. The trace begins where `DirAt` is asked for.
-pub fn open_dir<'a>(cap: Cap, right: Right, trace: &'a [Step]) -> Reading<'a>
-    requires { IsCapFront cap right trace.now }
-    ensures { Reads (open_with cap right) trace.now result }
+pub fn open_dir<'a>(cap: Cap, right: Right, trace: StepSlice<'a>) -> Reading<'a>
+    requires { IsCapFront cap right trace }
+    ensures { Reads (open_with cap right) trace.entry result }
 {
     let Some((a, rest)) = trace.split_first() else {
         return Reading::Next(Next::Call(Level::L10, LevelCall::DirAt { cap, right }));
@@ -29,9 +30,9 @@ pub fn open_dir<'a>(cap: Cap, right: Right, trace: &'a [Step]) -> Reading<'a>
 
 /// Reads the directory of an identifier, which is live: `RepOf`, and what `read_rep` reads. The trace begins where
 /// `RepOf` is asked for.
-pub fn read_dir<'a>(dir: Uid, trace: &'a [Step]) -> Reading<'a>
-    requires { IsDirFront dir.0 trace.now }
-    ensures { Reads (dir_read dir.0) trace.now result }
+pub fn read_dir<'a>(dir: Uid, trace: StepSlice<'a>) -> Reading<'a>
+    requires { IsDirFront dir.0 trace }
+    ensures { Reads (dir_read dir.0) trace.entry result }
 {
     let Some((a, rest)) = trace.split_first() else {
         return Reading::Next(Next::Call(Level::L9, LevelCall::RepOf { uid: dir }));
@@ -45,9 +46,9 @@ pub fn read_dir<'a>(dir: Uid, trace: &'a [Step]) -> Reading<'a>
 
 /// Reads the directory of a representation, which is live: `SlotOf`, and a `PageGet` for each page up to the first that
 /// has a slot that was never used. The trace begins where `SlotOf` is asked for.
-pub fn read_rep<'a>(rep: Uid, trace: &'a [Step]) -> Reading<'a>
-    requires { IsRepFront rep.0 trace.now }
-    ensures { Reads (rep_read rep.0) trace.now result }
+pub fn read_rep<'a>(rep: Uid, trace: StepSlice<'a>) -> Reading<'a>
+    requires { IsRepFront rep.0 trace }
+    ensures { Reads (rep_read rep.0) trace.entry result }
 {
     let Some((a, rest)) = trace.split_first() else {
         return Reading::Next(Next::Call(Level::L8, LevelCall::SlotOf { uid: rep }));
@@ -60,12 +61,12 @@ pub fn read_rep<'a>(rep: Uid, trace: &'a [Step]) -> Reading<'a>
 }
 
 // Reads the pages of a slot. While they are read it looks at the last of them alone.
-fn read_pages<'a>(slot: u16, trace: &'a [Step]) -> Reading<'a>
-    requires { IsSlotFront slot trace.now }
-    ensures { Reads (pages_read 8 slot 0 []) trace.now result }
+fn read_pages<'a>(slot: u16, trace: StepSlice<'a>) -> Reading<'a>
+    requires { IsSlotFront slot trace }
+    ensures { Reads (pages_read 8 slot 0 []) trace.entry result }
 {
-    let (pages, rest) = trace.split_at(pages_first(trace));
-    if is_more(pages, rest) {
+    let (pages, rest) = trace.split_at(pages_first(&trace));
+    if is_more(&pages, &rest) {
         let page = 8 * slot + pages.len() as u16;
         return Reading::Next(Next::Call(Level::L7, LevelCall::PageGet { page }));
     }
@@ -73,7 +74,7 @@ fn read_pages<'a>(slot: u16, trace: &'a [Step]) -> Reading<'a>
 }
 
 // How many calls in front read pages.
-fn pages_first(trace: &[Step]) -> usize
+fn pages_first(trace: &StepSlice<'_>) -> usize
     ensures value { result ≡ counted trace.now }
     ensures within { result ≤ length trace.now }
 {
@@ -83,7 +84,7 @@ fn pages_first(trace: &[Step]) -> usize
     if !reads_page(&first.call) {
         return 0;
     }
-    1 + pages_first(rest)
+    1 + pages_first(&rest)
 }
 
 fn reads_page(call: &LevelCall) -> bool
@@ -96,19 +97,19 @@ fn reads_page(call: &LevelCall) -> bool
 }
 
 // Whether one more page is to be read.
-fn is_more(pages: &[Step], rest: &[Step]) -> bool
+fn is_more(pages: &StepSlice<'_>, rest: &StepSlice<'_>) -> bool
     ensures { result ≡ more 8 [] pages.now rest.now }
 {
     rest.is_empty() && pages.len() < 8 && !ends_never(pages)
 }
 
 // Whether the last page has a slot that was never used.
-fn ends_never(pages: &[Step]) -> bool
+fn ends_never(pages: &StepSlice<'_>) -> bool
     ensures { result ≡ has_never (last_page [] pages.now) }
 {
     match pages.last() {
         Some(last) => match &last.answer {
-            LevelAnswer::Whole(page) => has_never(page),
+            LevelAnswer::Whole(page) => has_never(page.page()),
             _ => false,
         },
         None => false,

@@ -1,26 +1,26 @@
 // Plans of name spaces.
-ghost use Rattle.std.specs.Prelude.{◌≡◌, ◌<◌, ◌≤◌, ◌⊎◌, [], length, drop, option_map, IfSome};
+ghost use Rattle.std.specs.Prelude.{◌≡◌, ◌<◌, [], drop, option_map, IfSome};
 ghost use Rattle.psos_text.specs.Name.{IsName};
 ghost use Rattle.psos_words.specs.Directory.{find};
 ghost use Rattle.psos_dirrep.specs.Entries.{as_found};
 ghost use Rattle.psos_calls.specs.Language.User.{here};
 ghost use Rattle.psos_calls.specs.Plan.Trace.{followed, next_of};
 ghost use Rattle.psos_calls.specs.Plan.Directories.{plan_find, plan_path};
-ghost use Rattle.psos_plan_dir.specs.Asked.{asked as count_asked, asks_dir as is_for_dir, BeginsWithDir};
 ghost use Rattle.psos_plan_dir.specs.Reads.{IsRun};
 
 use crate::{Open, Reading, read_dir};
 use psos_calls::close::{give, refuse};
 use psos_calls::{
-    Effect, Level, LevelAnswer, LevelCall, Next, Path, Private, Refusal, Reply, Right, Step, Tab,
+    Effect, Level, LevelAnswer, LevelCall, Next, Path, Private, Refusal, Reply, Right, StepSlice,
+    Tab, Trace,
 };
 use psos_dirrep::Found;
 use psos_text::Name;
 use psos_words::Word;
 
-pub(crate) fn next_path(me: &Private, rs: u8, trace: &[Step]) -> Next
+pub(crate) fn next_path(me: &Private, rs: u8, trace: StepSlice<'_>) -> Next
     requires { rs < 16 }
-    ensures { result ≡ next_of (followed (plan_path (here me.now) me.now.path rs) trace.now) }
+    ensures { result ≡ next_of (followed (plan_path (here me.now) me.now.path rs) trace.entry) }
 {
     let Word::Cap(cap) = me.here(rs) else {
         return refuse(Refusal::NotCap);
@@ -42,20 +42,20 @@ pub(crate) fn next_path(me: &Private, rs: u8, trace: &[Step]) -> Next
     }
 }
 
-pub(crate) fn next_find(me: &Private, rd: u8, name: &Name, trace: &[Step]) -> Next
+pub(crate) fn next_find(me: &Private, rd: u8, name: &Name, trace: &Trace) -> Next
     requires named { IsName name.now }
     requires run { IsRun (plan_find me.now.path rd name.now) trace.now }
     ensures { result ≡ next_of (followed (plan_find me.now.path rd name.now) trace.now) }
 {
-    let (passed, rest) = trace.split_at(last_asked(trace));
-    find_from(me.path(), asked(passed), rd, name, rest)
+    let (passed, rest) = trace.since_dir();
+    find_from(me.path(), passed, rd, name, rest)
 }
 
 // What the plan does from directory i of the name space on.
-fn find_from(path: &Path, i: usize, rd: u8, name: &Name, trace: &[Step]) -> Next
+fn find_from(path: &Path, i: usize, rd: u8, name: &Name, trace: StepSlice<'_>) -> Next
     requires named { IsName name.now }
-    requires run { IsRun (plan_find (drop i path.now) rd name.now) trace.now }
-    ensures { result ≡ next_of (followed (plan_find (drop i path.now) rd name.now) trace.now) }
+    requires run { IsRun (plan_find (drop i path.now) rd name.now) trace }
+    ensures { result ≡ next_of (followed (plan_find (drop i path.now) rd name.now) trace.entry) }
 {
     if i >= path.len() {
         return refuse(Refusal::UnknownName);
@@ -72,7 +72,7 @@ fn find_from(path: &Path, i: usize, rd: u8, name: &Name, trace: &[Step]) -> Next
         Reading::Next(next) => return next,
         Reading::Done(open, rest) => (open, rest),
     };
-    match found_now(&open, name, rest) {
+    match found_now(&open, name, &rest) {
         Some(found) => give(rd, Word::Cap(found.cap)),
         None => find_from(path, i + 1, rd, name, rest),
     }
@@ -80,7 +80,7 @@ fn find_from(path: &Path, i: usize, rd: u8, name: &Name, trace: &[Step]) -> Next
 
 // The entry of the name. Where a call was made since the directory was read, it was not there, and is not looked for
 // again.
-fn found_now(dir: &Open<'_>, name: &Name, rest: &[Step]) -> Option<Found>
+fn found_now(dir: &Open<'_>, name: &Name, rest: &StepSlice<'_>) -> Option<Found>
     requires { IsName name.now }
     ensures looked { rest.now ≡ [] → result ≡ option_map as_found (find dir.now.slots name.now) }
     ensures passed { IfSome result (λ found. rest.now ≡ []) }
@@ -89,42 +89,4 @@ fn found_now(dir: &Open<'_>, name: &Name, rest: &[Step]) -> Option<Found>
         return None;
     }
     dir.find(name)
-}
-
-// Where the last call stands that asks for a directory, or the beginning.
-fn last_asked(trace: &[Step]) -> usize
-    ensures within { result ≤ length trace.now }
-    ensures at { result ≡ 0 ⊎ BeginsWithDir (drop result trace.now) }
-{
-    let mut at = trace.len();
-    'calls: while at > 0 {
-        at -= 1;
-        if asks_dir(&trace[at].call) {
-            return at;
-        }
-    }
-    0
-}
-
-// How many calls ask for a directory.
-fn asked(trace: &[Step]) -> usize
-    ensures value { result ≡ count_asked trace.now }
-    ensures few { result ≤ length trace.now }
-{
-    let Some((first, rest)) = trace.split_first() else {
-        return 0;
-    };
-    if asks_dir(&first.call) {
-        return 1 + asked(rest);
-    }
-    asked(rest)
-}
-
-fn asks_dir(call: &LevelCall) -> bool
-    ensures { result ≡ is_for_dir call.now }
-{
-    match call {
-        LevelCall::DirAt { .. } => true,
-        _ => false,
-    }
 }

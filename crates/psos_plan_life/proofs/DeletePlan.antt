@@ -1,6 +1,5 @@
 -- The plan of `delete`, part by part.
-use Rattle.std.proofs.Common.{◌≡◌, ℕ, Bool, true, false, length, List, [], ◌∷◌, Option, Some, None, Result, Ok, Err, Bor, refl, sym, ap, subst, ◌∙◌}
-use Rattle.std.specs.Prelude.{◌==◌}
+use Rattle.std.proofs.Common.{◌≡◌, ℕ, Bool, true, false, List, [], ◌∷◌, Option, Some, None, Result, Ok, Err, refl, sym, ap, subst, ◌∙◌}
 use Rattle.psos_table.specs.Table.{at}
 use Rattle.psos_caps.specs.Capability.{Capability}
 use Rattle.psos_caps.specs.declared.cap.Uid.{Uid}
@@ -14,7 +13,7 @@ use Rattle.psos_calls.specs.declared.kind.Kind.TheVariants.{Segment, Directory}
 use Rattle.psos_calls.specs.declared.right.Right.TheVariants.{Delete}
 use Rattle.psos_calls.specs.declared.refusal.Refusal.TheVariants.{NotCap, UnknownName, NotDistinguished, NotEmpty}
 use Rattle.psos_calls.specs.declared.level_call.LevelCall.TheVariants.{Hold13, Hold11, KindOf, DirGone}
-use Rattle.psos_calls.specs.declared.level_answer.LevelAnswer.{LevelAnswer}
+use Rattle.psos_calls.specs.Levels.Answers.{LevelAnswer}
 use Rattle.psos_calls.specs.declared.level_answer.LevelAnswer.TheVariants.{Is}
 use Rattle.psos_calls.specs.declared.next.Next.{Next}
 use Rattle.psos_calls.specs.declared.step.Step.{Step}
@@ -23,6 +22,7 @@ use Rattle.psos_calls.specs.Levels.Level11.{LifeState}
 use Rattle.psos_calls.specs.Levels.{Levels}
 use Rattle.psos_calls.specs.Plan.{Plan, Ask, refuse, if_kind}
 use Rattle.psos_calls.specs.Language.Capabilities.{uid}
+use Rattle.psos_calls.specs.Plan.Steps.{is_nothing}
 use Rattle.psos_calls.specs.Plan.Parts.{Opened}
 use Rattle.psos_calls.specs.Plan.Objects.{is_empty, plan_delete}
 use Rattle.psos_calls.specs.Plan.Trace.{followed, next_of, IsTraceOf}
@@ -129,18 +129,18 @@ empty_was d u s rest front = by (is_empty d) refl front.front
     by true e h = e
     by false e h = elim h [ ]
 
-empty_found : (d : Opened) (u : ℕ) (trace : List Step) → false ≡ (length trace == 0) → IsEmptying d u trace → is_empty d ≡ true
+empty_found : (d : Opened) (u : ℕ) (trace : List Step) → false ≡ is_nothing trace → IsEmptying d u trace → is_empty d ≡ true
 empty_found d u [] some front = cc
 empty_found d u (s ∷ rest) some front = empty_was d u s rest front
 
-pub empty_tells : (d : Opened) (u : ℕ) (trace : List Step) → false ≡ (length trace == 0) → IsEmptying d u trace
-    → (r : Result (Bor (List Step)) Next) → Tells (doing (DirGone (uid u))) trace r → Tells (emptied d u) trace r
+pub empty_tells : (d : Opened) (u : ℕ) (trace : List Step) → false ≡ is_nothing trace → IsEmptying d u trace
+    → (r : Result (List Step) Next) → Tells (doing (DirGone (uid u))) trace r → Tells (emptied d u) trace r
 empty_tells d u trace some front r h = by r h
   where
     same : (go : Unit {0} → Plan) → emptied d u go ≡ doing (DirGone (uid u)) go
     same go = ap (λ (b : Bool). if_holds b (refuse NotEmpty) (doing (DirGone (uid u)) go)) (empty_found d u trace some front)
 
-    by : (r : Result (Bor (List Step)) Next) → Tells (doing (DirGone (uid u))) trace r → Tells (emptied d u) trace r
+    by : (r : Result (List Step) Next) → Tells (doing (DirGone (uid u))) trace r → Tells (emptied d u) trace r
     by (Ok rest) h = record { goes_on = λ go. ap (λ (p : Plan). followed p trace) (same go) ∙ h.goes_on go }
     by (Err next) h = record { comes = λ go. h.comes go ∙ ap (λ (p : Plan). next_of (followed p trace)) (sym (same go)) }
 

@@ -1,5 +1,5 @@
 -- Parts of plans behind one another.
-use Rattle.std.proofs.Common.{◌≡◌, List, Result, Ok, Err, Bor, sym, ap, ◌∙◌}
+use Rattle.std.proofs.Common.{◌≡◌, List, Result, Ok, Err, sym, ap, ◌∙◌}
 use Rattle.psos_calls.specs.declared.step.Step.{Step}
 use Rattle.psos_calls.specs.declared.next.Next.{Next}
 use Rattle.psos_calls.specs.Plan.{Plan}
@@ -29,7 +29,7 @@ pub first_stops : {X Y : Type 0} {part : (X → Plan) → Plan} {trace : List St
 first_stops behind h = record { comes = λ go. h.comes (λ x. behind x go) }
 
 -- the last part, behind a part that is past
-pub last_part : {X : Type 0} {part : (X → Plan) → Plan} {trace mid : List Step} {x : X} (behind : X → (Unit {0} → Plan) → Plan) (r : Result (Bor (List Step)) Next)
+pub last_part : {X : Type 0} {part : (X → Plan) → Plan} {trace mid : List Step} {x : X} (behind : X → (Unit {0} → Plan) → Plan) (r : Result (List Step) Next)
     → Gives part trace x mid → Tells (behind x) mid r → Tells (λ go. part (λ x. behind x go)) trace r
 last_part behind (Ok rest) g h = both_given behind g h
 last_part behind (Err n) g h = second_stops behind g h

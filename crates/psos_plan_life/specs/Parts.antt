@@ -1,10 +1,9 @@
 -- Parts of plans: a plan is parts behind one another, and after a trace each is past or not. States docs/requests.md, "Plans".
 use Rattle.std.specs.Prelude.{◌≡◌, ℕ, Option, None, List, Result, Ok, Err}
-use Rattle.std.specs.Borrow.{Bor}
 use Rattle.psos_limits.specs.declared.TheConstants.{MOST_WORDS}
 use Rattle.psos_caps.specs.declared.cap.Uid.{Uid}
 use Rattle.psos_caps.specs.declared.rights.Rights.{Rights}
-use Rattle.psos_calls.specs.declared.level_call.LevelCall.{LevelCall}
+use Rattle.psos_calls.specs.Levels.Calls.{LevelCall}
 use Rattle.psos_calls.specs.declared.level_call.LevelCall.TheVariants.{DirMake, ObjMake}
 use Rattle.psos_calls.specs.declared.step.Step.{Step}
 use Rattle.psos_calls.specs.declared.next.Next.{Next}
@@ -24,12 +23,12 @@ pub record Stops {X : Type 0} (part : (X → Plan) → Plan) (trace : List Step)
   pub comes : (go : X → Plan) → next ≡ next_of (followed (part go) trace)
 
 -- what is told of a part that gives nothing: it is past, with these steps behind it, or it is not
-abbrev pub Tells : ((Unit {0} → Plan) → Plan) → List Step → Result (Bor (List Step)) Next → Type 0
-Tells part trace (Ok rest) = Gives part trace tt rest.now
+abbrev pub Tells : ((Unit {0} → Plan) → Plan) → List Step → Result (List Step) Next → Type 0
+Tells part trace (Ok rest) = Gives part trace tt rest
 Tells part trace (Err next) = Stops part trace next
 
 -- a part was tried, with this result: whatever part it was, this comes next where such a plan is behind it
-pub record ComesAfter (tried : Result (Bor (List Step)) Next) (after : Plan) (next : Next) : Type 0 where
+pub record ComesAfter (tried : Result (List Step) Next) (after : Plan) (next : Next) : Type 0 where
   pub comes : (part : (Unit {0} → Plan) → Plan) (trace : List Step) → Tells part trace tried → next ≡ next_of (followed (part (λ _. after)) trace)
 
 -- a call that only has to be made

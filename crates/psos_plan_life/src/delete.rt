@@ -13,18 +13,18 @@ ghost use Rattle.psos_plan_life.specs.Deletion.{held_dir, picking, forgotten, de
 use crate::parts::done;
 use crate::removal::kind_gone;
 use psos_calls::close::{fine, refuse};
-use psos_calls::{Kind, Level, LevelAnswer, LevelCall, Next, Private, Refusal, Right, Step};
+use psos_calls::{Kind, Level, LevelAnswer, LevelCall, Next, Private, Refusal, Right, StepSlice};
 use psos_caps::{Cap, Uid};
 use psos_dirrep::gone_words;
 use psos_plan_dir::{Open, Reading, open_dir};
 use psos_text::Name;
 use psos_words::Word;
 
-pub(crate) fn next_delete(me: &Private, rs: u8, name: &Name, trace: &[Step]) -> Next
+pub(crate) fn next_delete(me: &Private, rs: u8, name: &Name, trace: StepSlice<'_>) -> Next
     requires source { rs < 16 }
     requires named { IsName name.now }
-    requires run { IsRun (plan_delete (here me.now) rs name.now) trace.now }
-    ensures { result ≡ next_of (followed (plan_delete (here me.now) rs name.now) trace.now) }
+    requires run { IsRun (plan_delete (here me.now) rs name.now) trace }
+    ensures { result ≡ next_of (followed (plan_delete (here me.now) rs name.now) trace.entry) }
 {
     let Word::Cap(dir) = me.here(rs) else {
         return refuse(Refusal::NotCap);
@@ -36,9 +36,9 @@ pub(crate) fn next_delete(me: &Private, rs: u8, name: &Name, trace: &[Step]) -> 
 }
 
 // Levels 13 and 11 are held, and the directory is opened.
-fn open_held<'a>(dir: Cap, name: &Name, trace: &'a [Step]) -> Reading<'a>
-    requires { IsHeldFront dir name.now trace.now }
-    ensures { Reads (held_dir dir) trace.now result }
+fn open_held<'a>(dir: Cap, name: &Name, trace: StepSlice<'a>) -> Reading<'a>
+    requires { IsHeldFront dir name.now trace }
+    ensures { Reads (held_dir dir) trace.entry result }
 {
     let trace = match done(Level::L13, LevelCall::Hold13, trace) {
         Ok(trace) => trace,
@@ -51,10 +51,10 @@ fn open_held<'a>(dir: Cap, name: &Name, trace: &'a [Step]) -> Reading<'a>
 }
 
 // What the name names goes from the directory, and with it what hangs on it.
-fn delete_in(dir: &Open<'_>, name: &Name, trace: &[Step]) -> Next
+fn delete_in(dir: &Open<'_>, name: &Name, trace: StepSlice<'_>) -> Next
     requires named { IsName name.now }
-    requires front { IsDeleting dir.now name.now trace.now }
-    ensures { result ≡ next_of (followed (deleting dir.now name.now) trace.now) }
+    requires front { IsDeleting dir.now name.now trace }
+    ensures { result ≡ next_of (followed (deleting dir.now name.now) trace.entry) }
 {
     let ((uid, kind), trace) = match pick(dir, name, trace) {
         Ok(picked) => picked,
@@ -70,11 +70,11 @@ fn delete_in(dir: &Open<'_>, name: &Name, trace: &[Step]) -> Next
 fn pick<'a>(
     dir: &Open<'_>,
     name: &Name,
-    trace: &'a [Step],
-) -> Result<((Uid, Kind), &'a [Step]), Next>
+    trace: StepSlice<'a>,
+) -> Result<((Uid, Kind), StepSlice<'a>), Next>
     requires named { IsName name.now }
-    requires front { IsDeleting dir.now name.now trace.now }
-    ensures { MatchResult result (λ p. IsPicked dir.now name.now trace.now p.0.0.0 p.0.1 p.1.now) (λ n. Stops (picking dir.now name.now) trace.now n) }
+    requires front { IsDeleting dir.now name.now trace }
+    ensures { MatchResult result (λ p. IsPicked dir.now name.now trace.entry p.0.0.0 p.0.1 p.1) (λ n. Stops (picking dir.now name.now) trace.entry n) }
 {
     let Some((step, rest)) = trace.split_first() else {
         return Err(look(dir, name));
@@ -105,10 +105,10 @@ fn look(dir: &Open<'_>, name: &Name) -> Next
 }
 
 // The object is forgotten, and its entry goes.
-fn forget(dir: &Open<'_>, name: &Name, uid: Uid, trace: &[Step]) -> Next
+fn forget(dir: &Open<'_>, name: &Name, uid: Uid, trace: StepSlice<'_>) -> Next
     requires named { IsName name.now }
     requires entry { IsEntryOf dir.now name.now uid.0 }
-    ensures { (found : Entered) → find dir.now.slots name.now ≡ Some found → result ≡ next_of (followed (forgotten dir.now found) trace.now) }
+    ensures { (found : Entered) → find dir.now.slots name.now ≡ Some found → result ≡ next_of (followed (forgotten dir.now found) trace.entry) }
 {
     match done(Level::L11, LevelCall::Forget { uid }, trace) {
         Ok(trace) => clear(dir, name, trace),
@@ -118,10 +118,10 @@ fn forget(dir: &Open<'_>, name: &Name, uid: Uid, trace: &[Step]) -> Next
 
 // The words of a free slot are written where the name was found. It is looked for again only for the call that does
 // that.
-fn clear(dir: &Open<'_>, name: &Name, trace: &[Step]) -> Next
+fn clear(dir: &Open<'_>, name: &Name, trace: StepSlice<'_>) -> Next
     requires named { IsName name.now }
     requires entry { (found : Entered) × (find dir.now.slots name.now ≡ Some found) }
-    ensures { (found : Entered) → find dir.now.slots name.now ≡ Some found → result ≡ next_of (followed (put_slot dir.now found.slot words_of_gone it_was_done) trace.now) }
+    ensures { (found : Entered) → find dir.now.slots name.now ≡ Some found → result ≡ next_of (followed (put_slot dir.now found.slot words_of_gone it_was_done) trace.entry) }
 {
     let Some((step, _)) = trace.split_first() else {
         return match dir.find(name) {

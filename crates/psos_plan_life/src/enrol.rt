@@ -11,7 +11,7 @@ ghost use Rattle.psos_plan_life.specs.Vacancies.{free_slot};
 use crate::parts::done;
 use crate::vacancy::Vacancy;
 use psos_calls::close::{give, refuse};
-use psos_calls::{Kind, Level, LevelAnswer, LevelCall, Next, Step};
+use psos_calls::{Kind, Level, LevelAnswer, LevelCall, Next, StepSlice};
 use psos_dirrep::entry_words;
 use psos_text::Name;
 use psos_words::Word;
@@ -22,7 +22,7 @@ pub(crate) fn enrol(
     name: &Name,
     kind: Kind,
     rd: u8,
-    made: Result<&[Step], Next>,
+    made: Result<StepSlice<'_>, Next>,
 ) -> Next
     requires named { IsName name.now }
     requires room { IsSome (slot_for vacancy.now.dir.slots) }
@@ -40,10 +40,10 @@ pub(crate) fn enrol(
 }
 
 // The entry is written. The slot is looked for again only for the call that does that.
-fn enter(vacancy: &Vacancy<'_>, name: &Name, rd: u8, trace: &[Step]) -> Next
+fn enter(vacancy: &Vacancy<'_>, name: &Name, rd: u8, trace: StepSlice<'_>) -> Next
     requires named { IsName name.now }
     requires room { IsSome (slot_for vacancy.now.dir.slots) }
-    ensures { result ≡ next_of (followed (put_slot vacancy.now.dir (free_slot vacancy.now.dir) (words_of_entry name.now vacancy.now.new true) (give rd (Word.Cap vacancy.now.new))) trace.now) }
+    ensures { result ≡ next_of (followed (put_slot vacancy.now.dir (free_slot vacancy.now.dir) (words_of_entry name.now vacancy.now.new true) (give rd (Word.Cap vacancy.now.new))) trace.entry) }
 {
     let Some((step, _)) = trace.split_first() else {
         return put_entry(vacancy, name);

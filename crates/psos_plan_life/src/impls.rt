@@ -5,13 +5,13 @@ ghost use Rattle.psos_calls.specs.Plan.Trace.{followed, next_of};
 ghost use Rattle.psos_calls.specs.Plan.Objects.{plan_impl};
 
 use psos_calls::close::{give, refuse};
-use psos_calls::{Level, LevelAnswer, LevelCall, Next, Private, Refusal, Step};
+use psos_calls::{Level, LevelAnswer, LevelCall, Next, Private, Refusal, StepSlice};
 use psos_words::Word;
 
-pub(crate) fn next_impl(me: &Private, rd: u8, rt: u8, ro: u8, trace: &[Step]) -> Next
+pub(crate) fn next_impl(me: &Private, rd: u8, rt: u8, ro: u8, trace: StepSlice<'_>) -> Next
     requires of { rt < 16 }
     requires on { ro < 16 }
-    ensures { result ≡ next_of (followed (plan_impl (here me.now) rd rt ro) trace.now) }
+    ensures { result ≡ next_of (followed (plan_impl (here me.now) rd rt ro) trace.entry) }
 {
     let Word::Cap(of) = me.here(rt) else {
         return refuse(Refusal::NotCap);

@@ -13,7 +13,7 @@ use crate::parts::done;
 use crate::segments::{directory, representation, segment};
 use crate::vacancy::make_in;
 use psos_calls::close::refuse;
-use psos_calls::{Kind, Level, LevelCall, Next, Private, Refusal, Step};
+use psos_calls::{Kind, Level, LevelCall, Next, Private, Refusal, StepSlice};
 use psos_caps::Rights;
 use psos_text::Name;
 use psos_words::Word;
@@ -25,12 +25,12 @@ pub(crate) fn next_mkseg(
     name: &Name,
     len: u64,
     guard: u8,
-    trace: &[Step],
+    trace: StepSlice<'_>,
 ) -> Next
     requires source { rs < 16 }
     requires named { IsName name.now }
-    requires run { IsRun (plan_mkseg (here me.now) rd rs name.now len guard) trace.now }
-    ensures { result ≡ next_of (followed (plan_mkseg (here me.now) rd rs name.now len guard) trace.now) }
+    requires run { IsRun (plan_mkseg (here me.now) rd rs name.now len guard) trace }
+    ensures { result ≡ next_of (followed (plan_mkseg (here me.now) rd rs name.now len guard) trace.entry) }
 {
     let Word::Cap(dir) = me.here(rs) else {
         return refuse(Refusal::NotCap);
@@ -52,12 +52,12 @@ pub(crate) fn next_mkdir(
     rs: u8,
     name: &Name,
     guard: u8,
-    trace: &[Step],
+    trace: StepSlice<'_>,
 ) -> Next
     requires source { rs < 16 }
     requires named { IsName name.now }
-    requires run { IsRun (plan_mkdir (here me.now) rd rs name.now guard) trace.now }
-    ensures { result ≡ next_of (followed (plan_mkdir (here me.now) rd rs name.now guard) trace.now) }
+    requires run { IsRun (plan_mkdir (here me.now) rd rs name.now guard) trace }
+    ensures { result ≡ next_of (followed (plan_mkdir (here me.now) rd rs name.now guard) trace.entry) }
 {
     let Word::Cap(dir) = me.here(rs) else {
         return refuse(Refusal::NotCap);
@@ -70,11 +70,11 @@ pub(crate) fn next_mkdir(
     enrol(&vacancy, name, Kind::Directory, rd, made)
 }
 
-pub(crate) fn next_mktype(me: &Private, rd: u8, rs: u8, name: &Name, trace: &[Step]) -> Next
+pub(crate) fn next_mktype(me: &Private, rd: u8, rs: u8, name: &Name, trace: StepSlice<'_>) -> Next
     requires source { rs < 16 }
     requires named { IsName name.now }
-    requires run { IsRun (plan_mktype (here me.now) rd rs name.now) trace.now }
-    ensures { result ≡ next_of (followed (plan_mktype (here me.now) rd rs name.now) trace.now) }
+    requires run { IsRun (plan_mktype (here me.now) rd rs name.now) trace }
+    ensures { result ≡ next_of (followed (plan_mktype (here me.now) rd rs name.now) trace.entry) }
 {
     let Word::Cap(dir) = me.here(rs) else {
         return refuse(Refusal::NotCap);
@@ -95,13 +95,13 @@ pub(crate) fn next_mkobj(
     rs: u8,
     name: &Name,
     len: u64,
-    trace: &[Step],
+    trace: StepSlice<'_>,
 ) -> Next
     requires of { rt < 16 }
     requires source { rs < 16 }
     requires named { IsName name.now }
-    requires run { IsRun (plan_mkobj (here me.now) rd rt rs name.now len) trace.now }
-    ensures { result ≡ next_of (followed (plan_mkobj (here me.now) rd rt rs name.now len) trace.now) }
+    requires run { IsRun (plan_mkobj (here me.now) rd rt rs name.now len) trace }
+    ensures { result ≡ next_of (followed (plan_mkobj (here me.now) rd rt rs name.now len) trace.entry) }
 {
     let Word::Cap(of) = me.here(rt) else {
         return refuse(Refusal::NotCap);
@@ -127,13 +127,13 @@ pub(crate) fn next_mkcode(
     name: &Name,
     label: u8,
     rl: u8,
-    trace: &[Step],
+    trace: StepSlice<'_>,
 ) -> Next
     requires source { rs < 16 }
     requires linkage { rl < 16 }
     requires named { IsName name.now }
-    requires run { IsRun (plan_mkcode (here me.now) rd rs name.now label rl) trace.now }
-    ensures { result ≡ next_of (followed (plan_mkcode (here me.now) rd rs name.now label rl) trace.now) }
+    requires run { IsRun (plan_mkcode (here me.now) rd rs name.now label rl) trace }
+    ensures { result ≡ next_of (followed (plan_mkcode (here me.now) rd rs name.now label rl) trace.entry) }
 {
     let Word::Cap(dir) = me.here(rs) else {
         return refuse(Refusal::NotCap);

@@ -5,14 +5,18 @@ ghost use Rattle.psos_calls.specs.Plan.Parts.{with_fresh};
 ghost use Rattle.psos_plan_life.specs.Parts.{Gives, Stops, Tells, Leads, doing, taking, naming};
 
 use psos_calls::close::refuse;
-use psos_calls::{Level, LevelAnswer, LevelCall, Next, Refusal, Step};
+use psos_calls::{Level, LevelAnswer, LevelCall, Next, Refusal, StepSlice};
 use psos_caps::{Cap, Uid};
 
 // A call that only has to be made. No answer but a refusal stops the plan.
-pub(crate) fn done<'a>(level: Level, call: LevelCall, trace: &'a [Step]) -> Result<&'a [Step], Next>
+pub(crate) fn done<'a>(
+    level: Level,
+    call: LevelCall,
+    trace: StepSlice<'a>,
+) -> Result<StepSlice<'a>, Next>
     requires { level ≡ level_of call }
-    ensures past { Tells (doing call) trace.now result }
-    ensures front { IfOk result (λ rest. Leads call trace.now rest.now) }
+    ensures past { Tells (doing call) trace.entry result }
+    ensures front { IfOk result (λ rest. Leads call trace.entry rest) }
 {
     let Some((step, rest)) = trace.split_first() else {
         return Err(Next::Call(level, call));
@@ -24,8 +28,8 @@ pub(crate) fn done<'a>(level: Level, call: LevelCall, trace: &'a [Step]) -> Resu
 }
 
 // A new identifier.
-pub(crate) fn fresh<'a>(trace: &'a [Step]) -> Result<(Cap, &'a [Step]), Next>
-    ensures { MatchResult result (λ p. Gives with_fresh trace.now p.0 p.1.now) (λ n. Stops with_fresh trace.now n) }
+pub(crate) fn fresh<'a>(trace: StepSlice<'a>) -> Result<(Cap, StepSlice<'a>), Next>
+    ensures { MatchResult result (λ p. Gives with_fresh trace.entry p.0 p.1) (λ n. Stops with_fresh trace.entry n) }
 {
     let Some((step, rest)) = trace.split_first() else {
         return Err(Next::Call(Level::L0, LevelCall::Fresh));
@@ -41,10 +45,10 @@ pub(crate) fn fresh<'a>(trace: &'a [Step]) -> Result<(Cap, &'a [Step]), Next>
 pub(crate) fn slot<'a>(
     level: Level,
     call: LevelCall,
-    trace: &'a [Step],
-) -> Result<(u16, &'a [Step]), Next>
+    trace: StepSlice<'a>,
+) -> Result<(u16, StepSlice<'a>), Next>
     requires { level ≡ level_of call }
-    ensures { MatchResult result (λ p. Gives (taking call) trace.now p.0 p.1.now) (λ n. Stops (taking call) trace.now n) }
+    ensures { MatchResult result (λ p. Gives (taking call) trace.entry p.0 p.1) (λ n. Stops (taking call) trace.entry n) }
 {
     let Some((step, rest)) = trace.split_first() else {
         return Err(Next::Call(level, call));
@@ -60,10 +64,10 @@ pub(crate) fn slot<'a>(
 pub(crate) fn rep<'a>(
     level: Level,
     call: LevelCall,
-    trace: &'a [Step],
-) -> Result<(Uid, &'a [Step]), Next>
+    trace: StepSlice<'a>,
+) -> Result<(Uid, StepSlice<'a>), Next>
     requires { level ≡ level_of call }
-    ensures { MatchResult result (λ p. Gives (naming call) trace.now p.0.0 p.1.now) (λ n. Stops (naming call) trace.now n) }
+    ensures { MatchResult result (λ p. Gives (naming call) trace.entry p.0.0 p.1) (λ n. Stops (naming call) trace.entry n) }
 {
     let Some((step, rest)) = trace.split_first() else {
         return Err(Next::Call(level, call));

@@ -6,13 +6,17 @@ ghost use Rattle.psos_plan_life.specs.Deletion.{kind_dropped, emptied, IsDroppin
 use crate::parts::done;
 use crate::segments::{object_gone, segment_gone};
 use psos_calls::close::refuse;
-use psos_calls::{Kind, Level, LevelCall, Next, Refusal, Step};
+use psos_calls::{Kind, Level, LevelCall, Next, Refusal, StepSlice};
 use psos_caps::Uid;
 use psos_plan_dir::{Open, Reading, read_dir};
 
-pub(crate) fn kind_gone<'a>(kind: Kind, uid: Uid, trace: &'a [Step]) -> Result<&'a [Step], Next>
-    requires { IsDropping kind uid.0 trace.now }
-    ensures { Tells (kind_dropped kind uid.0) trace.now result }
+pub(crate) fn kind_gone<'a>(
+    kind: Kind,
+    uid: Uid,
+    trace: StepSlice<'a>,
+) -> Result<StepSlice<'a>, Next>
+    requires { IsDropping kind uid.0 trace }
+    ensures { Tells (kind_dropped kind uid.0) trace.entry result }
 {
     match kind {
         Kind::Segment => segment_gone(uid, trace),
@@ -25,9 +29,9 @@ pub(crate) fn kind_gone<'a>(kind: Kind, uid: Uid, trace: &'a [Step]) -> Result<&
 }
 
 // A directory that has no entry goes, and its representation.
-fn directory_gone<'a>(uid: Uid, trace: &'a [Step]) -> Result<&'a [Step], Next>
-    requires { IsDropping Directory uid.0 trace.now }
-    ensures { Tells (kind_dropped Directory uid.0) trace.now result }
+fn directory_gone<'a>(uid: Uid, trace: StepSlice<'a>) -> Result<StepSlice<'a>, Next>
+    requires { IsDropping Directory uid.0 trace }
+    ensures { Tells (kind_dropped Directory uid.0) trace.entry result }
 {
     let (inner, trace) = match read_dir(uid, trace) {
         Reading::Next(next) => return Err(next),
@@ -38,9 +42,9 @@ fn directory_gone<'a>(uid: Uid, trace: &'a [Step]) -> Result<&'a [Step], Next>
 }
 
 // Once the call that follows was made, the directory is known to be empty.
-fn empty_gone<'a>(inner: &Open<'_>, uid: Uid, trace: &'a [Step]) -> Result<&'a [Step], Next>
-    requires { IsEmptying inner.now uid.0 trace.now }
-    ensures { Tells (emptied inner.now uid.0) trace.now result }
+fn empty_gone<'a>(inner: &Open<'_>, uid: Uid, trace: StepSlice<'a>) -> Result<StepSlice<'a>, Next>
+    requires { IsEmptying inner.now uid.0 trace }
+    ensures { Tells (emptied inner.now uid.0) trace.entry result }
 {
     if trace.is_empty() {
         return Err(if inner.is_empty() {

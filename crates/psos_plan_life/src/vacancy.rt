@@ -7,7 +7,7 @@ ghost use Rattle.psos_plan_dir.specs.Reads.{Reads};
 
 use crate::parts::{done, fresh};
 use psos_calls::close::refuse;
-use psos_calls::{Level, LevelAnswer, LevelCall, Next, Refusal, Right, Step};
+use psos_calls::{Level, LevelAnswer, LevelCall, Next, Refusal, Right, StepSlice};
 use psos_caps::Cap;
 use psos_plan_dir::{Open, Reading, open_dir, read_rep};
 use psos_text::Name;
@@ -24,11 +24,11 @@ pub(crate) fn make_in<'a>(
     dir: Cap,
     of: Option<Cap>,
     name: &Name,
-    trace: &'a [Step],
-) -> Result<(Vacancy<'a>, &'a [Step]), Next>
+    trace: StepSlice<'a>,
+) -> Result<(Vacancy<'a>, StepSlice<'a>), Next>
     requires named { IsName name.now }
-    requires front { IsMaking dir of name.now trace.now }
-    ensures { MatchResult result (λ p. IsVacancy (making dir of name.now) trace.now p.0.dir p.0.new p.1.now) (λ n. Stops (making dir of name.now) trace.now n) }
+    requires front { IsMaking dir of name.now trace }
+    ensures { MatchResult result (λ p. IsVacancy (making dir of name.now) trace.entry p.0.dir p.0.new p.1) (λ n. Stops (making dir of name.now) trace.entry n) }
 {
     let trace = done(Level::L11, LevelCall::Room, trace)?;
     let (dir, trace) = match open_for(dir, of, trace) {
@@ -40,9 +40,9 @@ pub(crate) fn make_in<'a>(
 }
 
 // Opens a directory to make something in it, an object of a type or what has none.
-fn open_for<'a>(dir: Cap, of: Option<Cap>, trace: &'a [Step]) -> Reading<'a>
-    requires { IsOpening dir of trace.now }
-    ensures { Reads (opening dir of) trace.now result }
+fn open_for<'a>(dir: Cap, of: Option<Cap>, trace: StepSlice<'a>) -> Reading<'a>
+    requires { IsOpening dir of trace }
+    ensures { Reads (opening dir of) trace.entry result }
 {
     match of {
         Some(of) => open_typed(dir, of, trace),
@@ -51,9 +51,9 @@ fn open_for<'a>(dir: Cap, of: Option<Cap>, trace: &'a [Step]) -> Reading<'a>
 }
 
 // The type is looked at between the call for the directory's representation and the one for its slot.
-fn open_typed<'a>(dir: Cap, of: Cap, trace: &'a [Step]) -> Reading<'a>
-    requires { IsOpening dir (Some of) trace.now }
-    ensures { Reads (opening dir (Some of)) trace.now result }
+fn open_typed<'a>(dir: Cap, of: Cap, trace: StepSlice<'a>) -> Reading<'a>
+    requires { IsOpening dir (Some of) trace }
+    ensures { Reads (opening dir (Some of)) trace.entry result }
 {
     let Some((a, trace)) = trace.split_first() else {
         let right = Right::Create;
@@ -82,11 +82,11 @@ fn open_typed<'a>(dir: Cap, of: Cap, trace: &'a [Step]) -> Reading<'a>
 fn find_vacancy<'a>(
     dir: &Open<'_>,
     name: &Name,
-    trace: &'a [Step],
-) -> Result<(Cap, &'a [Step]), Next>
+    trace: StepSlice<'a>,
+) -> Result<(Cap, StepSlice<'a>), Next>
     requires named { IsName name.now }
-    requires front { IsFinding dir.now name.now trace.now }
-    ensures { MatchResult result (λ p. IsVacancy (finding dir.now name.now) trace.now dir.now p.0 p.1.now) (λ n. Stops (finding dir.now name.now) trace.now n) }
+    requires front { IsFinding dir.now name.now trace }
+    ensures { MatchResult result (λ p. IsVacancy (finding dir.now name.now) trace.entry dir.now p.0 p.1) (λ n. Stops (finding dir.now name.now) trace.entry n) }
 {
     if trace.is_empty() {
         return Err(match dir.room_for(name) {

@@ -5,14 +5,14 @@ ghost use Rattle.psos_calls.specs.Plan.Trace.{followed, next_of};
 ghost use Rattle.psos_calls.specs.Plan.Processes.{plan_send, plan_recv, plan_call};
 
 use psos_calls::close::{enter, fine, give, refuse};
-use psos_calls::{Level, LevelAnswer, LevelCall, Next, Private, Refusal, Step, Tab};
+use psos_calls::{Level, LevelAnswer, LevelCall, Next, Private, Refusal, StepSlice, Tab};
 use psos_limits::{CALL_CHARGE, MOST_CHARGE, MOST_FRAMES};
 use psos_words::Word;
 
-pub(crate) fn next_send(me: &Private, rp: u8, rv: u8, trace: &[Step]) -> Next
+pub(crate) fn next_send(me: &Private, rp: u8, rv: u8, trace: StepSlice<'_>) -> Next
     requires target { rp < 16 }
     requires value { rv < 16 }
-    ensures { result ≡ next_of (followed (plan_send (here me.now) rp rv) trace.now) }
+    ensures { result ≡ next_of (followed (plan_send (here me.now) rp rv) trace.entry) }
 {
     let Word::Cap(to) = me.here(rp) else {
         return refuse(Refusal::NotCap);
@@ -27,8 +27,8 @@ pub(crate) fn next_send(me: &Private, rp: u8, rv: u8, trace: &[Step]) -> Next
     }
 }
 
-pub(crate) fn next_recv(me: &Private, rd: u8, trace: &[Step]) -> Next
-    ensures { result ≡ next_of (followed (plan_recv me.now.process rd) trace.now) }
+pub(crate) fn next_recv(me: &Private, rd: u8, trace: StepSlice<'_>) -> Next
+    ensures { result ≡ next_of (followed (plan_recv me.now.process rd) trace.entry) }
 {
     let Some((a, _)) = trace.split_first() else {
         let uid = me.process();
@@ -41,9 +41,9 @@ pub(crate) fn next_recv(me: &Private, rd: u8, trace: &[Step]) -> Next
     }
 }
 
-pub(crate) fn next_call(me: &Private, rp: u8, trace: &[Step]) -> Next
+pub(crate) fn next_call(me: &Private, rp: u8, trace: StepSlice<'_>) -> Next
     requires { rp < 16 }
-    ensures { result ≡ next_of (followed (plan_call me.now (here me.now) rp) trace.now) }
+    ensures { result ≡ next_of (followed (plan_call me.now (here me.now) rp) trace.entry) }
 {
     let Word::Cap(cap) = me.here(rp) else {
         return refuse(Refusal::NotCap);

@@ -6,12 +6,12 @@ ghost use Rattle.psos_calls.specs.Plan.Trace.{followed, next_of, IsTraceOf};
 ghost use Rattle.psos_calls.specs.Plan.Segments.{plan_read, plan_write, plan_window, plan_length};
 
 use psos_calls::close::{fine, give, refuse};
-use psos_calls::{Level, LevelAnswer, LevelCall, Next, Private, Refusal, Right, Step};
+use psos_calls::{Level, LevelAnswer, LevelCall, Next, Private, Refusal, Right, StepSlice};
 use psos_words::Word;
 
-pub(crate) fn next_read(me: &Private, rd: u8, rs: u8, n: u64, trace: &[Step]) -> Next
+pub(crate) fn next_read(me: &Private, rd: u8, rs: u8, n: u64, trace: StepSlice<'_>) -> Next
     requires { rs < 16 }
-    ensures { result ≡ next_of (followed (plan_read (here me.now) rd rs n) trace.now) }
+    ensures { result ≡ next_of (followed (plan_read (here me.now) rd rs n) trace.entry) }
 {
     let Word::Cap(cap) = me.here(rs) else {
         return refuse(Refusal::NotCap);
@@ -40,10 +40,10 @@ pub(crate) fn next_read(me: &Private, rd: u8, rs: u8, n: u64, trace: &[Step]) ->
     }
 }
 
-pub(crate) fn next_write(me: &Private, rs: u8, n: u64, rv: u8, trace: &[Step]) -> Next
+pub(crate) fn next_write(me: &Private, rs: u8, n: u64, rv: u8, trace: StepSlice<'_>) -> Next
     requires source { rs < 16 }
     requires value { rv < 16 }
-    ensures { result ≡ next_of (followed (plan_write (here me.now) rs n rv) trace.now) }
+    ensures { result ≡ next_of (followed (plan_write (here me.now) rs n rv) trace.entry) }
 {
     let Word::Cap(cap) = me.here(rs) else {
         return refuse(Refusal::NotCap);
@@ -72,9 +72,9 @@ pub(crate) fn next_write(me: &Private, rs: u8, n: u64, rv: u8, trace: &[Step]) -
     }
 }
 
-pub(crate) fn next_length(me: &Private, rd: u8, rs: u8, trace: &[Step]) -> Next
+pub(crate) fn next_length(me: &Private, rd: u8, rs: u8, trace: StepSlice<'_>) -> Next
     requires { rs < 16 }
-    ensures { result ≡ next_of (followed (plan_length (here me.now) rd rs) trace.now) }
+    ensures { result ≡ next_of (followed (plan_length (here me.now) rd rs) trace.entry) }
 {
     let Word::Cap(cap) = me.here(rs) else {
         return refuse(Refusal::NotCap);
@@ -89,10 +89,17 @@ pub(crate) fn next_length(me: &Private, rd: u8, rs: u8, trace: &[Step]) -> Next
     }
 }
 
-pub(crate) fn next_window(me: &Private, rd: u8, rs: u8, base: u64, len: u64, trace: &[Step]) -> Next
+pub(crate) fn next_window(
+    me: &Private,
+    rd: u8,
+    rs: u8,
+    base: u64,
+    len: u64,
+    trace: StepSlice<'_>,
+) -> Next
     requires source { rs < 16 }
-    requires trace { (l : Levels) × IsTraceOf (plan_window (here me.now) rd rs base len) l trace.now }
-    ensures { result ≡ next_of (followed (plan_window (here me.now) rd rs base len) trace.now) }
+    requires trace { (l : Levels) × IsTraceOf (plan_window (here me.now) rd rs base len) l trace }
+    ensures { result ≡ next_of (followed (plan_window (here me.now) rd rs base len) trace.entry) }
 {
     let Word::Cap(cap) = me.here(rs) else {
         return refuse(Refusal::NotCap);

@@ -7,9 +7,9 @@ use Rattle.psos_calls.specs.declared.kind.Kind.TheVariants.{Process}
 use Rattle.psos_calls.specs.declared.right.Right.TheVariants.{Send}
 use Rattle.psos_calls.specs.declared.tab.Tab.TheVariants as tabs
 use Rattle.psos_calls.specs.declared.refusal.Refusal.TheVariants.{Absent, Lacks, Guarded, Exhausted, Empty}
-use Rattle.psos_calls.specs.declared.level_call.LevelCall.{LevelCall}
+use Rattle.psos_calls.specs.Levels.Calls.{LevelCall}
 use Rattle.psos_calls.specs.declared.level_call.LevelCall.TheVariants.{Post, Draw}
-use Rattle.psos_calls.specs.declared.level_answer.LevelAnswer.{LevelAnswer}
+use Rattle.psos_calls.specs.Levels.Answers.{LevelAnswer}
 use Rattle.psos_calls.specs.declared.level_answer.LevelAnswer.TheVariants.{Done, Got, No}
 use Rattle.psos_calls.specs.Language.Rights.{has}
 use Rattle.psos_calls.specs.Language.Tests.{if_none, if_holds}

@@ -3,8 +3,8 @@ use Rattle.std.specs.Prelude.{◌≡◌, ℕ, zero, suc, ◌+◌, ◌≤◌, Lis
 use Rattle.std.specs.FinMap.{empty}
 use Rattle.psos_table.specs.Table.{put}
 use Rattle.psos_words.specs.declared.word.Word.{Word}
-use Rattle.psos_calls.specs.declared.level_call.LevelCall.{LevelCall}
-use Rattle.psos_calls.specs.declared.level_answer.LevelAnswer.{LevelAnswer}
+use Rattle.psos_calls.specs.Levels.Calls.{LevelCall}
+use Rattle.psos_calls.specs.Levels.Answers.{LevelAnswer}
 use Rattle.psos_calls.specs.Levels.Level12.{BoxState, act12}
 use Rattle.psos_calls.specs.Locks.{part_of}
 use Rattle.psos_procs.specs.Mailbox.{Mailbox, process_of, act_box}

@@ -1,10 +1,11 @@
 // The mailbox of a process.
 ghost use Rattle.std.specs.Prelude.{◌≡◌, ◌==◌, ◌<◌, ◌≤◌, []};
+ghost use Rattle.psos_calls.specs.Levels.Answers.{with_any_page};
 ghost use Rattle.psos_calls.specs.Locks.{part_of};
 ghost use Rattle.psos_procs.specs.Mailbox.{process_of, box_posted, box_drawn, act_box};
 
 use arrayvec::ArrayVec;
-use psos_calls::{Kind, LevelAnswer, LevelCall, Refusal, Right, Tab, has, part_of};
+use psos_calls::{Kind, LevelAnswer, LevelCall, NoPage, Refusal, Right, Tab, has, part_of};
 use psos_caps::{Cap, Rights, Uid};
 use psos_guards::admits;
 use psos_limits::MOST_MESSAGES;
@@ -54,11 +55,12 @@ impl Mailbox {
 
     /// Makes a call of level 12 on this mailbox alone (docs/levels.md, "Calls"): what it leaves and answers are those
     /// of `act_box`, and so of `act12` (`mailboxes_are_parts`). The call's part is this mailbox (`has_part`): it names
-    /// this mailbox's process, or no process at all and this mailbox is that of user 0. A refusal is the answer
-    /// `No`, and changes nothing. Calls of other levels do nothing here and answer `Done`. It takes no memory.
-    pub fn act(&mut self, call: &LevelCall) -> LevelAnswer
+    /// this mailbox's process, or no process at all and this mailbox is that of user 0. The answer tells no page.
+    /// A refusal is the answer `No`, and changes nothing. Calls of other levels do nothing here and answer `Done`. It
+    /// takes no memory.
+    pub fn act(&mut self, call: &LevelCall) -> LevelAnswer<NoPage>
         requires { part_of self.old.users call.now ≡ self.old.number }
-        ensures row { (self.new.words, result) ≡ act_box (process_of self.old.number) self.old.words call.now }
+        ensures row { (self.new.words, with_any_page result) ≡ act_box (process_of self.old.number) self.old.words call.now }
         ensures number { self.new.number ≡ self.old.number }
         ensures users { self.new.users ≡ self.old.users }
     {
@@ -77,10 +79,8 @@ impl Mailbox {
     }
 
     // A word goes last.
-    // It stands apart, since an answer has room for a page, and the locals of `act` are filled at each call.
-    #[inline(never)]
-    fn post(&mut self, to: Cap, word: Word) -> LevelAnswer
-        ensures row { (self.new.words, result) ≡ box_posted (process_of self.old.number) self.old.words to word }
+    fn post(&mut self, to: Cap, word: Word) -> LevelAnswer<NoPage>
+        ensures row { (self.new.words, with_any_page result) ≡ box_posted (process_of self.old.number) self.old.words to word }
         ensures number { self.new.number ≡ self.old.number }
         ensures users { self.new.users ≡ self.old.users }
     {
@@ -101,9 +101,8 @@ impl Mailbox {
     }
 
     // The first word goes, and is the answer.
-    #[inline(never)]
-    fn draw(&mut self, uid: Uid) -> LevelAnswer
-        ensures row { (self.new.words, result) ≡ act_box (process_of self.old.number) self.old.words (LevelCall.Draw uid) }
+    fn draw(&mut self, uid: Uid) -> LevelAnswer<NoPage>
+        ensures row { (self.new.words, with_any_page result) ≡ act_box (process_of self.old.number) self.old.words (LevelCall.Draw uid) }
         ensures number { self.new.number ≡ self.old.number }
         ensures users { self.new.users ≡ self.old.users }
     {

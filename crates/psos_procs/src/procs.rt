@@ -1,11 +1,12 @@
 // The mailboxes of all processes.
 ghost use Rattle.std.specs.Prelude.{◌≡◌, ◌<◌, ◌≤◌, length, IsOk, IfOk};
 ghost use Rattle.psos_table.specs.Table.{size};
+ghost use Rattle.psos_calls.specs.Levels.Answers.{with_any_page};
 ghost use Rattle.psos_calls.specs.Levels.Level12.{act12};
 ghost use Rattle.psos_procs.specs.Mailboxes.{boxes_of, no_words, AreMailboxes};
 
 use crate::Mailbox;
-use psos_calls::{LevelAnswer, LevelCall, LevelFault, part_of};
+use psos_calls::{LevelAnswer, LevelCall, LevelFault, NoPage, part_of};
 use std::alloc::{AllocError, Global};
 use std::marker::Model;
 
@@ -47,21 +48,24 @@ impl Procs {
         Ok(Procs { boxes })
     }
 
-    /// Makes a call of level 12 (docs/levels.md, "Calls"): what it leaves and answers are those of `act12`. A refusal
-    /// is the answer `No`, and changes nothing. It answers as `act12` does also where the call's condition does not
-    /// hold: calls of other levels do nothing here and answer `Done`. It takes no memory, so there is no `Err`; `_alloc`
-    /// and the result stand there since the calls of all levels have one form.
-    #[inline(never)]
-    pub fn act(&mut self, _alloc: Global, call: &LevelCall) -> Result<LevelAnswer, LevelFault>
-        ensures made { IfOk result (λ answer. (self.new, answer) ≡ act12 self.old call.now) }
+    /// Makes a call of level 12 (docs/levels.md, "Calls"): what it leaves and answers are those of `act12`. The
+    /// answer tells no page. A refusal is the answer `No`, and changes nothing. It answers as `act12` does also where the
+    /// call's condition does not hold: calls of other levels do nothing here and answer `Done`. It takes no memory, so
+    /// there is no `Err`; `_alloc` and the result stand there since the calls of all levels have one form.
+    pub fn act(
+        &mut self,
+        _alloc: Global,
+        call: &LevelCall,
+    ) -> Result<LevelAnswer<NoPage>, LevelFault>
+        ensures made { IfOk result (λ answer. (self.new, with_any_page answer) ≡ act12 self.old call.now) }
         ensures always { IsOk result }
     {
         Ok(self.pass_on(call))
     }
 
     // Makes a call on the mailbox of its part.
-    fn pass_on(&mut self, call: &LevelCall) -> LevelAnswer
-        ensures { (self.new, result) ≡ act12 self.old call.now }
+    fn pass_on(&mut self, call: &LevelCall) -> LevelAnswer<NoPage>
+        ensures { (self.new, with_any_page result) ≡ act12 self.old call.now }
     {
         let part = part_of(self.boxes.len() as u8, call);
         match self.boxes.get_mut(part as usize) {

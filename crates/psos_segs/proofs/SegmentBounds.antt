@@ -13,6 +13,7 @@ use Rattle.psos_calls.specs.declared.win_row.WinRow.{WinRow}
 use Rattle.psos_calls.specs.declared.right.Right.TheVariants.{Window}
 use Rattle.psos_calls.specs.declared.tab.Tab.TheVariants.{Windows}
 use Rattle.psos_calls.specs.declared.refusal.Refusal.TheVariants.{Lacks, Range, Exhausted}
+use Rattle.psos_calls.specs.Levels.Answers.{LevelAnswer}
 use Rattle.psos_calls.specs.declared.level_answer.LevelAnswer.TheVariants.{Done, No}
 use Rattle.psos_calls.specs.Language.Rights.{has}
 use Rattle.psos_calls.specs.Levels.Level8.{SegState, view, win_room}
@@ -44,7 +45,7 @@ module _ {s : Table SegRow} {w : Table WinRow} (are : AreWithin s w) (u : ℕ) w
     parts = row_kept (λ _ w. w.base + w.len ≤ MOST_WORDS) test w are.parts;
   }
 
-passed : (may inside room : Bool) → (if may then (if inside then (if room then Done else No (Exhausted Windows)) else No Range) else No (Lacks Window)) ≡ Done → inside ≡ true
+passed : (may inside room : Bool) → ◌≡◌ {A = LevelAnswer} (if may then (if inside then (if room then Done else No (Exhausted Windows)) else No Range) else No (Lacks Window)) Done → inside ≡ true
 passed false inside room e = absurd (cc e)
 passed true false room e = absurd (cc e)
 passed true true room e = refl

@@ -6,6 +6,7 @@ ghost use Rattle.psos_limits.specs.declared.TheConstants.{SLOTS, MOST_WORDS};
 ghost use Rattle.psos_table.specs.Table.{at, put, without, kept};
 ghost use Rattle.psos_calls.specs.declared.level.Level.TheVariants.{L8};
 ghost use Rattle.psos_calls.specs.Levels.{AddsRowAt};
+ghost use Rattle.psos_calls.specs.Levels.Answers.{with_any_page};
 ghost use Rattle.psos_calls.specs.Levels.Level8.{SegState, view, slot_of, locate, win_room, win_made, length_of, act8, Can8, IsNew};
 ghost use Rattle.psos_calls.specs.Language.Views.{is_not_over};
 ghost use Rattle.psos_segs.specs.Within.{as_view};
@@ -13,7 +14,7 @@ ghost use Rattle.psos_segs.specs.Within.{as_view};
 use crate::over::Over;
 use crate::view::{View, barred_by, fits_in};
 use psos_calls::{
-    Kind, LevelAnswer, LevelCall, LevelFault, Refusal, Right, SegRow, Tab, WinRow, has,
+    Kind, LevelAnswer, LevelCall, LevelFault, NoPage, Refusal, Right, SegRow, Tab, WinRow, has,
 };
 use psos_caps::{Cap, Uid};
 use psos_counts::Counted;
@@ -75,12 +76,16 @@ impl Segs {
     }
 
     /// Makes a call of level 8, where its condition holds: `Locate`, `SlotOf`, `SegMake`, `SegGone`, `WinRoom`,
-    /// `WinMake` or `Length` (docs/levels.md, "Calls"). A refusal is the answer `No` and changes nothing. `Err` only
-    /// where memory runs out, in `SegMake` and `WinMake` alone: the level is unchanged. Rows take their memory from the
-    /// allocator of `new`; `_alloc` stands there since the calls of all levels have one form.
-    pub fn act(&mut self, _alloc: Global, call: &LevelCall) -> Result<LevelAnswer, LevelFault>
+    /// `WinMake` or `Length` (docs/levels.md, "Calls"). The answer tells no page. A refusal is the answer `No` and
+    /// changes nothing. `Err` only where memory runs out, in `SegMake` and `WinMake` alone: the level is unchanged. Rows
+    /// take their memory from the allocator of `new`; `_alloc` stands there since the calls of all levels have one form.
+    pub fn act(
+        &mut self,
+        _alloc: Global,
+        call: &LevelCall,
+    ) -> Result<LevelAnswer<NoPage>, LevelFault>
         requires { Can8 self.old call.now }
-        ensures ok { IfOk result (λ answer. (self.new, answer) ≡ act8 self.old call.now) }
+        ensures ok { IfOk result (λ answer. (self.new, with_any_page answer) ≡ act8 self.old call.now) }
         ensures err { OnErr result (self.new ≡ self.old) }
         ensures memory { IfErr result (λ fault. fault ≡ LevelFault.Memory alloc_error) }
         ensures cause { OnErr result (AddsRowAt L8 call.now) }
@@ -91,54 +96,25 @@ impl Segs {
                 off,
                 need,
                 word,
-            } => self.located(cap, off, need, word),
-            LevelCall::SlotOf { uid } => slot(self.slot_of(uid)),
+            } => Ok(self.locate(cap, off, need, word)),
+            LevelCall::SlotOf { uid } => Ok(LevelAnswer::Slot(self.slot_of(uid))),
             LevelCall::SegMake {
                 uid,
                 slot,
                 len,
                 guard,
             } => done(self.make(uid, SegRow { slot, len, guard })),
-            LevelCall::SegGone { uid } => slot(self.remove(uid)),
-            LevelCall::WinRoom { cap, base, len } => self.roomed(cap, base, len),
+            LevelCall::SegGone { uid } => Ok(LevelAnswer::Slot(self.remove(uid))),
+            LevelCall::WinRoom { cap, base, len } => Ok(self.room(cap, base, len)),
             LevelCall::WinMake {
                 uid,
                 cap,
                 base,
                 len,
             } => done(self.make_window(uid, cap, base, len)),
-            LevelCall::Length { cap } => self.measured(cap),
-            _ => done(Ok(())),
+            LevelCall::Length { cap } => Ok(self.length(cap)),
+            _ => Ok(LevelAnswer::Done),
         }
-    }
-
-    // Each answer is made in a function of its own: it has room for a page, which is filled where the function begins,
-    // and a call of `act` pays for its own answer alone.
-    #[inline(never)]
-    fn located(
-        &self,
-        cap: Cap,
-        off: u64,
-        need: Right,
-        word: Option<Word>,
-    ) -> Result<LevelAnswer, LevelFault>
-        ensures { result ≡ Ok (locate self.now cap off need word) }
-    {
-        Ok(self.locate(cap, off, need, word))
-    }
-
-    #[inline(never)]
-    fn roomed(&self, cap: Cap, base: u64, len: u64) -> Result<LevelAnswer, LevelFault>
-        ensures { result ≡ Ok (win_room self.now cap base len) }
-    {
-        Ok(self.room(cap, base, len))
-    }
-
-    #[inline(never)]
-    fn measured(&self, cap: Cap) -> Result<LevelAnswer, LevelFault>
-        ensures { result ≡ Ok (length_of self.now cap) }
-    {
-        Ok(self.length(cap))
     }
 
     // Whether this is neither a live segment nor a live window.
@@ -184,8 +160,8 @@ impl Segs {
     }
 
     // Where a word lies, or why the capability does not lead there.
-    fn locate(&self, cap: Cap, off: u64, need: Right, word: Option<Word>) -> LevelAnswer
-        ensures { result ≡ locate self.now cap off need word }
+    fn locate(&self, cap: Cap, off: u64, need: Right, word: Option<Word>) -> LevelAnswer<NoPage>
+        ensures { with_any_page result ≡ locate self.now cap off need word }
     {
         let Some(view) = self.view(cap.uid()) else {
             return LevelAnswer::No(Refusal::Absent(Kind::Segment));
@@ -229,8 +205,8 @@ impl Segs {
     }
 
     // Whether a window may be made, or why not.
-    fn room(&self, cap: Cap, base: u64, len: u64) -> LevelAnswer
-        ensures { result ≡ win_room self.now cap base len }
+    fn room(&self, cap: Cap, base: u64, len: u64) -> LevelAnswer<NoPage>
+        ensures { with_any_page result ≡ win_room self.now cap base len }
     {
         let Some(view) = self.view(cap.uid()) else {
             return LevelAnswer::No(Refusal::Absent(Kind::Segment));
@@ -267,8 +243,8 @@ impl Segs {
     }
 
     // How many words the capability leads to.
-    fn length(&self, cap: Cap) -> LevelAnswer
-        ensures { result ≡ length_of self.now cap }
+    fn length(&self, cap: Cap) -> LevelAnswer<NoPage>
+        ensures { with_any_page result ≡ length_of self.now cap }
     {
         let Some(view) = self.view(cap.uid()) else {
             return LevelAnswer::No(Refusal::Absent(Kind::Segment));
@@ -287,17 +263,8 @@ fn is_in_bounds(slot: u16, len: u16) -> bool
     (slot as usize) < SLOTS && 1 <= len && (len as usize) <= MOST_WORDS
 }
 
-// The answer that names a slot.
-#[inline(never)]
-fn slot(number: u16) -> Result<LevelAnswer, LevelFault>
-    ensures { result ≡ Ok (LevelAnswer.Slot number) }
-{
-    Ok(LevelAnswer::Slot(number))
-}
-
 // The answer where a row was added, or the fault where there was no memory for it.
-#[inline(never)]
-fn done(added: Result<(), AllocError>) -> Result<LevelAnswer, LevelFault>
+fn done(added: Result<(), AllocError>) -> Result<LevelAnswer<NoPage>, LevelFault>
     ensures ok { OnOk added (result ≡ Ok LevelAnswer.Done) }
     ensures err { OnErr added (result ≡ Err (LevelFault.Memory alloc_error)) }
 {

@@ -4,10 +4,11 @@ ghost use Rattle.std.specs.FinMap.{empty};
 ghost use Rattle.psos_table.specs.Table.{without};
 ghost use Rattle.psos_calls.specs.declared.level.Level.TheVariants.{L9};
 ghost use Rattle.psos_calls.specs.Levels.{AddsRowAt};
+ghost use Rattle.psos_calls.specs.Levels.Answers.{with_any_page};
 ghost use Rattle.psos_calls.specs.Levels.Level9.{rep_of, type_at, impl_of, has_objects, type_gone, act9, Can9};
 
 use crate::by_type::ByType;
-use psos_calls::{Kind, LevelAnswer, LevelCall, LevelFault, ObjRow, Refusal, Right, has};
+use psos_calls::{Kind, LevelAnswer, LevelCall, LevelFault, NoPage, ObjRow, Refusal, Right, has};
 use psos_caps::{Cap, Uid};
 use psos_counts::Counted;
 use psos_table::Table;
@@ -57,10 +58,8 @@ impl Types {
     }
 
     // Whether objects of a type may be made.
-    // It stands apart, since an answer has room for a page, and the locals of `act` are filled at each call.
-    #[inline(never)]
-    fn at(&self, cap: Cap) -> LevelAnswer
-        ensures { result ≡ type_at self.now cap }
+    fn at(&self, cap: Cap) -> LevelAnswer<NoPage>
+        ensures { with_any_page result ≡ type_at self.now cap }
     {
         let Some(_live) = self.types.get(cap.uid().0) else {
             return LevelAnswer::No(Refusal::Absent(Kind::Typ));
@@ -72,9 +71,8 @@ impl Types {
     }
 
     // The representation capability of an object, for one who has its type.
-    #[inline(never)]
-    fn implementation(&self, of: Cap, on: Cap) -> LevelAnswer
-        ensures { result ≡ impl_of self.now of on }
+    fn implementation(&self, of: Cap, on: Cap) -> LevelAnswer<NoPage>
+        ensures { with_any_page result ≡ impl_of self.now of on }
     {
         let Some(_live) = self.types.get(of.uid().0) else {
             return LevelAnswer::No(Refusal::Absent(Kind::Typ));
@@ -102,10 +100,9 @@ impl Types {
     }
 
     // A type goes, where it has no object.
-    #[inline(never)]
-    fn drop_type(&mut self, uid: u64) -> LevelAnswer
+    fn drop_type(&mut self, uid: u64) -> LevelAnswer<NoPage>
         ensures state { self.new ≡ (type_gone self.old uid).0 }
-        ensures answer { result ≡ (type_gone self.old uid).1 }
+        ensures answer { with_any_page result ≡ (type_gone self.old uid).1 }
     {
         if self.has_objects(uid) {
             return LevelAnswer::No(Refusal::NotEmpty);
@@ -125,14 +122,18 @@ impl Types {
         }
     }
 
-    /// Makes a call of level 9 (docs/levels.md, "Calls"): what it leaves and answers are those of `act9`. A refusal
-    /// is the answer `No`, and changes nothing; a call of another level is answered with `Done`. `Err` only where memory
-    /// runs out, in `TypeMake` and `ObjMake` alone: the level is unchanged. Rows take their memory from the allocator of `new`;
-    /// `_alloc` stands there since the calls of all levels have one form.
-    pub fn act(&mut self, _alloc: Global, call: &LevelCall) -> Result<LevelAnswer, LevelFault>
+    /// Makes a call of level 9 (docs/levels.md, "Calls"): what it leaves and answers are those of `act9`. The
+    /// answer tells no page. A refusal is the answer `No`, and changes nothing; a call of another level is answered with
+    /// `Done`. `Err` only where memory runs out, in `TypeMake` and `ObjMake` alone: the level is unchanged. Rows take their
+    /// memory from the allocator of `new`; `_alloc` stands there since the calls of all levels have one form.
+    pub fn act(
+        &mut self,
+        _alloc: Global,
+        call: &LevelCall,
+    ) -> Result<LevelAnswer<NoPage>, LevelFault>
         requires { Can9 self.old call.now }
         ensures state { OnOk result (self.new ≡ (act9 self.old call.now).0) }
-        ensures answer { IfOk result (λ a. a ≡ (act9 self.old call.now).1) }
+        ensures answer { IfOk result (λ a. with_any_page a ≡ (act9 self.old call.now).1) }
         ensures unchanged { OnErr result (self.new ≡ self.old) }
         ensures memory { IfErr result (λ fault. fault ≡ LevelFault.Memory alloc_error) }
         ensures adding { OnErr result (AddsRowAt L9 call.now) }

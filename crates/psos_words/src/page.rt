@@ -32,18 +32,12 @@ impl Page {
         }
     }
 
-    /// A page of these words.
-    pub fn of(words: [Word; 64]) -> Page
-        ensures { result ≡ words }
+    /// Becomes a page of these 64 words.
+    pub fn copy_from(&mut self, words: &[Word])
+        requires { length words.now ≡ 64 }
+        ensures { self.new ≡ words.now }
     {
-        Page { words }
-    }
-
-    /// A page of the same words.
-    pub fn copied(&self) -> Page
-        ensures { result ≡ self.now }
-    {
-        Page { words: self.words }
+        self.words.copy_from_slice(words);
     }
 
     /// Word i.

@@ -6,9 +6,9 @@ use Rattle.psos_caps.specs.declared.rights.Rights.{Rights}
 use Rattle.psos_calls.specs.declared.right.Right.{Right}
 use Rattle.psos_calls.specs.declared.kind.Kind.TheVariants.{Directory}
 use Rattle.psos_calls.specs.declared.refusal.Refusal.TheVariants.{Absent, Lacks}
-use Rattle.psos_calls.specs.declared.level_call.LevelCall.{LevelCall}
+use Rattle.psos_calls.specs.Levels.Calls.{LevelCall}
 use Rattle.psos_calls.specs.declared.level_call.LevelCall.TheVariants.{DirAt, DirMake, DirGone}
-use Rattle.psos_calls.specs.declared.level_answer.LevelAnswer.{LevelAnswer}
+use Rattle.psos_calls.specs.Levels.Answers.{LevelAnswer}
 use Rattle.psos_calls.specs.declared.level_answer.LevelAnswer.TheVariants.{Done, Guard, No}
 use Rattle.psos_calls.specs.Language.Rights.{has}
 use Rattle.psos_calls.specs.Language.Tests.{if_there, if_holds}

@@ -6,9 +6,9 @@ use Rattle.psos_calls.specs.declared.kind.Kind.{Kind}
 use Rattle.psos_calls.specs.declared.kind.Kind.TheVariants.{Segment}
 use Rattle.psos_calls.specs.declared.tab.Tab.TheVariants.{Objects}
 use Rattle.psos_calls.specs.declared.refusal.Refusal.TheVariants.{Exhausted}
-use Rattle.psos_calls.specs.declared.level_call.LevelCall.{LevelCall}
+use Rattle.psos_calls.specs.Levels.Calls.{LevelCall}
 use Rattle.psos_calls.specs.declared.level_call.LevelCall.TheVariants.{Room, Enrol, KindOf, Forget}
-use Rattle.psos_calls.specs.declared.level_answer.LevelAnswer.{LevelAnswer}
+use Rattle.psos_calls.specs.Levels.Answers.{LevelAnswer}
 use Rattle.psos_calls.specs.declared.level_answer.LevelAnswer.TheVariants.{Done, Is, No}
 use Rattle.psos_calls.specs.Language.Tests.{if_there, if_holds}
 

@@ -8,9 +8,9 @@ use Rattle.psos_calls.specs.declared.code_row.CodeRow.{CodeRow}
 use Rattle.psos_calls.specs.declared.kind.Kind.TheVariants.{Code}
 use Rattle.psos_calls.specs.declared.right.Right.TheVariants as rights
 use Rattle.psos_calls.specs.declared.refusal.Refusal.TheVariants.{Absent, Lacks, Guarded}
-use Rattle.psos_calls.specs.declared.level_call.LevelCall.{LevelCall}
+use Rattle.psos_calls.specs.Levels.Calls.{LevelCall}
 use Rattle.psos_calls.specs.declared.level_call.LevelCall.TheVariants.{Admit, CodeMake, Enter, CodeGone}
-use Rattle.psos_calls.specs.declared.level_answer.LevelAnswer.{LevelAnswer}
+use Rattle.psos_calls.specs.Levels.Answers.{LevelAnswer}
 use Rattle.psos_calls.specs.declared.level_answer.LevelAnswer.TheVariants.{Done, Entered, No}
 use Rattle.psos_calls.specs.Language.Rights.{has}
 use Rattle.psos_calls.specs.Language.Tests.{if_there, if_none, if_holds}

@@ -1,11 +1,11 @@
 -- Level 7: pages. States docs/levels.md, "Pages and slots".
-use Rattle.std.specs.Prelude.{⊤, ◌≡◌, ℕ, suc, ◌+◌, ◌*◌, ◌/◌, ◌%◌, ◌<◌, ◌≤◌, List, [], ◌∷◌, Option, Some, None, length, take, drop, slice_set, slice_index_or}
+use Rattle.std.specs.Prelude.{⊤, ◌≡◌, Bool, true, false, ℕ, suc, ◌+◌, ◌*◌, ◌/◌, ◌%◌, ◌<◌, ◌≤◌, List, [], ◌∷◌, Option, Some, None, length, take, drop, slice_set, slice_index_or}
 use Rattle.psos_limits.specs.declared.TheConstants.{MOST_WORDS}
 use Rattle.psos_words.specs.declared.word.Word.{Word}
 use Rattle.psos_words.specs.Words.{zeros, word_at}
-use Rattle.psos_calls.specs.declared.level_call.LevelCall.{LevelCall}
+use Rattle.psos_calls.specs.Levels.Calls.{LevelCall}
 use Rattle.psos_calls.specs.declared.level_call.LevelCall.TheVariants.{PageTake, PageDrop, WordGet, WordPut, PageGet, FourPut}
-use Rattle.psos_calls.specs.declared.level_answer.LevelAnswer.{LevelAnswer}
+use Rattle.psos_calls.specs.Levels.Answers.{LevelAnswer}
 use Rattle.psos_calls.specs.declared.level_answer.LevelAnswer.TheVariants.{Done, Slot, Got, Whole}
 
 -- 521 slots, each free or with the 512 words of its eight pages
@@ -55,6 +55,11 @@ act7 p (WordPut page off word) = (with_words p page (slice_set (around p page) (
 act7 p (PageGet page) = (p, Whole (page_words p page))
 act7 p (FourPut page off words) = (with_words p page (written (around p page) (place_in_slot page off) words), Done)
 act7 p _ = (p, Done)
+
+-- the call reads a page
+abbrev pub reads_page : LevelCall → Bool
+reads_page (PageGet page) = true
+reads_page _ = false
 
 -- the slot is taken
 abbrev pub IsTaken : Pages → ℕ → Type 0

@@ -13,9 +13,9 @@ use Rattle.psos_calls.specs.declared.right.Right.TheVariants.{Read, Window}
 use Rattle.psos_calls.specs.declared.kind.Kind.TheVariants.{Segment}
 use Rattle.psos_calls.specs.declared.tab.Tab.TheVariants.{Windows}
 use Rattle.psos_calls.specs.declared.refusal.Refusal.TheVariants.{Absent, Lacks, Range, Guarded, Exhausted}
-use Rattle.psos_calls.specs.declared.level_call.LevelCall.{LevelCall}
+use Rattle.psos_calls.specs.Levels.Calls.{LevelCall}
 use Rattle.psos_calls.specs.declared.level_call.LevelCall.TheVariants.{Locate, SlotOf, SegMake, SegGone, WinRoom, WinMake, Length}
-use Rattle.psos_calls.specs.declared.level_answer.LevelAnswer.{LevelAnswer}
+use Rattle.psos_calls.specs.Levels.Answers.{LevelAnswer}
 use Rattle.psos_calls.specs.declared.level_answer.LevelAnswer.TheVariants.{Done, At, Slot, Len, No}
 use Rattle.psos_calls.specs.Language.Rights.{has}
 use Rattle.psos_calls.specs.Language.Tests.{if_there, if_none, if_holds}

@@ -1,7 +1,7 @@
 -- A call that its level refuses changes nothing. States docs/levels.md, "Levels".
 use Rattle.std.specs.Prelude.{◌≡◌}
 use Rattle.psos_calls.specs.declared.refusal.Refusal.{Refusal}
-use Rattle.psos_calls.specs.declared.level_call.LevelCall.{LevelCall}
+use Rattle.psos_calls.specs.Levels.Calls.{LevelCall}
 use Rattle.psos_calls.specs.declared.level_answer.LevelAnswer.TheVariants.{No}
 use Rattle.psos_calls.specs.Levels.{Levels, act}
 

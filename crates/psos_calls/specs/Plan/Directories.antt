@@ -13,7 +13,7 @@ use Rattle.psos_calls.specs.declared.tab.Tab.TheVariants.{Path}
 use Rattle.psos_calls.specs.declared.refusal.Refusal.TheVariants.{NotCap, Guarded, UnknownName, Distinguished, Exhausted}
 use Rattle.psos_calls.specs.declared.reply.Reply.TheVariants as replies
 use Rattle.psos_calls.specs.declared.effect.Effect.TheVariants.{Nothing, Push}
-use Rattle.psos_calls.specs.declared.level_answer.LevelAnswer.{LevelAnswer}
+use Rattle.psos_calls.specs.Levels.Answers.{LevelAnswer}
 use Rattle.psos_calls.specs.declared.level_answer.LevelAnswer.TheVariants.{Guard}
 use Rattle.psos_calls.specs.declared.level_call.LevelCall.TheVariants.{DirAt}
 use Rattle.psos_calls.specs.Language.Tests.{if_there, if_none, if_cap, if_holds}

@@ -1,11 +1,11 @@
 use Rattle.std.proofs.Common.{ap, ◌-◌, arith}
 use Rattle.psos_calls.specs.Levels.Level7.{Pages}
-use Rattle.psos_calls.specs.declared.level_answer.LevelAnswer.{LevelAnswer}
+use Rattle.psos_calls.specs.Levels.Answers.{LevelAnswer}
 use Rattle.psos_core.proofs.BootTables.{room_left, took}
 use Rattle.psos_core.proofs.boot.+take_slots.Goals as goal
 
-pub act-requires : goal.act-requires
-act-requires g t c = room_left _ (c.args.count - 1) (omega (arith, c.requires.few, c.if-count-eq0.false)) c.in_ok-take_slots.ensures.slots
+pub answer-requires-clause-can : goal.answer-requires-clause-can
+answer-requires-clause-can g t c = room_left _ (c.args.count - 1) (omega (arith, c.requires.few, c.if-count-eq0.false)) c.in_ok-take_slots.ensures.slots
 
 pub returns-in-Ok-clause-slots : goal.returns-in-Ok-clause-slots
 returns-in-Ok-clause-slots g t c =

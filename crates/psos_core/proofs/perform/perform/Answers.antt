@@ -3,7 +3,6 @@ use Rattle.psos_calls.specs.declared.next.Next.TheVariants as nexts
 use Rattle.std.proofs.lemmas.Option.{slice_get_within}
 use Rattle.psos_calls.specs.declared.step.Step.{Step}
 use Rattle.psos_calls.specs.Language.User.{User}
-use Rattle.psos_calls.specs.Levels.{act}
 use Rattle.psos_calls.specs.Plan.Requests.{plan_of}
 use Rattle.psos_calls.specs.Plan.Trace.{followed, IsTraceOf}
 use Rattle.psos_core.proofs.PlanRun.{IsLeft, all_left, can_ask, level_is, left_more, fewer_left, whole_at_close}

@@ -1,5 +1,4 @@
-use Rattle.std.proofs.Common.{length, ap, ◌∙◌, subst, sym, arith}
-use Rattle.psos_core.specs.System.{system_of}
+use Rattle.std.proofs.Common.{length, ap, ◌∙◌, arith}
 use Rattle.psos_core.proofs.SerialRun.{all_users, few, finds, asks, one_more, one_fewer, next_user, front_so_far, settled_so_far, front_left, settled_left}
 use Rattle.psos_core.proofs.serial.serve_user.Goals as goal
 

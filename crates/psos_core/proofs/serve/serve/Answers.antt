@@ -2,7 +2,7 @@ use Rattle.std.proofs.Common.{◌≡◌, List, [], ◌∷◌, ◌++◌, length, 
 use Rattle.std.proofs.lemmas.Grind.{common_steps}
 use Rattle.psos_calls.specs.declared.entry.Entry.{Entry}
 use Rattle.psos_calls.specs.declared.level.Level.{Level}
-use Rattle.psos_calls.specs.declared.level_call.LevelCall.{LevelCall}
+use Rattle.psos_calls.specs.Levels.Calls.{LevelCall}
 use Rattle.psos_calls.specs.Language.User.{User, CanSettle, place_of, after}
 use Rattle.psos_core.specs.System.{system_of}
 use Rattle.psos_core.proofs.UserSlots.{nobody}

@@ -1,4 +1,4 @@
-use Rattle.std.proofs.Common.{◌≡◌, List, sym, subst}
+use Rattle.std.proofs.Common.{◌≡◌, List, refl, sym, subst}
 use Rattle.psos_calls.specs.declared.request.Request.{Request}
 use Rattle.psos_calls.specs.declared.step.Step.{Step}
 use Rattle.psos_calls.specs.Levels.{Levels}
@@ -15,16 +15,16 @@ run me req q trace t l front lists e f =
     subst (IsRun (plan_of me q)) (sym f) (subst (λ (r : Request). IsRun (plan_of me r) trace) e all)
 
 pub next_lookup-requires-clause-run : goal.next_lookup-requires-clause-run
-next_lookup-requires-clause-run c = run c.args.me.now c.args.req.now _ c.args.trace.now _ c.requires.trace.0 c.requires.trace.1 c.requires.trace.2 c.in-Lookup.is c.as_slice-trace.ensures
+next_lookup-requires-clause-run c = run c.args.me.now c.args.req.now _ c.args.trace.now _ c.requires.trace.0 c.requires.trace.1 c.requires.trace.2 c.in-Lookup.is c.as_slice-steps.ensures
 
 pub next_bind-requires-clause-run : goal.next_bind-requires-clause-run
-next_bind-requires-clause-run c = run c.args.me.now c.args.req.now _ c.args.trace.now _ c.requires.trace.0 c.requires.trace.1 c.requires.trace.2 c.in-Bind.is c.as_slice-trace.ensures
+next_bind-requires-clause-run c = run c.args.me.now c.args.req.now _ c.args.trace.now _ c.requires.trace.0 c.requires.trace.1 c.requires.trace.2 c.in-Bind.is c.as_slice-steps.ensures
 
 pub next_unbind-requires-clause-run : goal.next_unbind-requires-clause-run
-next_unbind-requires-clause-run c = run c.args.me.now c.args.req.now _ c.args.trace.now _ c.requires.trace.0 c.requires.trace.1 c.requires.trace.2 c.in-Unbind.is c.as_slice-trace.ensures
+next_unbind-requires-clause-run c = run c.args.me.now c.args.req.now _ c.args.trace.now _ c.requires.trace.0 c.requires.trace.1 c.requires.trace.2 c.in-Unbind.is c.as_slice-steps.ensures
 
 pub next_list-requires-clause-run : goal.next_list-requires-clause-run
-next_list-requires-clause-run c = run c.args.me.now c.args.req.now _ c.args.trace.now _ c.requires.trace.0 c.requires.trace.1 c.requires.trace.2 c.in-List.is c.as_slice-trace.ensures
+next_list-requires-clause-run c = run c.args.me.now c.args.req.now _ c.args.trace.now _ c.requires.trace.0 c.requires.trace.1 c.requires.trace.2 c.in-List.is c.as_slice-steps.ensures
 
 pub next_find-requires-clause-run : goal.next_find-requires-clause-run
-next_find-requires-clause-run c = run c.args.me.now c.args.req.now _ c.args.trace.now _ c.requires.trace.0 c.requires.trace.1 c.requires.trace.2 c.in-Find.is c.as_slice-trace.ensures
+next_find-requires-clause-run c = run c.args.me.now c.args.req.now _ c.args.trace.now _ c.requires.trace.0 c.requires.trace.1 c.requires.trace.2 c.in-Find.is refl

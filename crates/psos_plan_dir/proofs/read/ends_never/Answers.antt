@@ -1,15 +1,18 @@
 use Rattle.std.proofs.Common.{[], sym, ap, ◌∙◌}
 use Rattle.psos_words.specs.Directory.{has_never}
 use Rattle.psos_plan_dir.specs.Pages.{page_in}
-use Rattle.psos_plan_dir.proofs.PageWalk.{last-is, no-page}
+use Rattle.psos_plan_dir.proofs.PageWalk.{last-is, last-none, no-page}
 use Rattle.psos_plan_dir.proofs.read.ends_never.Goals as goal
 
 pub returns-in-Whole : goal.returns-in-Whole
 returns-in-Whole c =
-    let last = last-is [] c.args.pages.now c.in-Some.last.now (sym c.in-Some.ensures.value) in
-    c.has_never.ensures ∙ sym (ap has_never (last ∙ ap page_in c.in-Whole.is))
+    let last = last-is [] c.args.pages.now c.in-Some.last (sym c.in-Some.ensures) in
+    c.has_never.ensures ∙ ap has_never c.page.ensures ∙ sym (ap has_never (last ∙ ap page_in c.in-Whole.is))
 
 pub returns-in_default : goal.returns-in_default
 returns-in_default c =
-    let last = last-is [] c.args.pages.now c.in-Some.last.now (sym c.in-Some.ensures.value) in
-    sym (ap has_never (last ∙ no-page c.in-Some.last.now.answer c.in_default.not-Whole))
+    let last = last-is [] c.args.pages.now c.in-Some.last (sym c.in-Some.ensures) in
+    sym (ap has_never (last ∙ no-page c.in-Some.last.answer c.in_default.not-Whole))
+
+pub returns-in-None : goal.returns-in-None
+returns-in-None c = sym (ap has_never (last-none [] c.args.pages.now (sym c.in-None.ensures)))

@@ -8,14 +8,14 @@ use Rattle.psos_plan_dir.proofs.read.open_dir.Goals as goal
 
 pub read_dir-requires : goal.read_dir-requires
 read_dir-requires c =
-    let front = dir-front c.args.cap c.args.right c.in-Guard.field-0 c.in-Some.a.now c.in-Some.rest.now c.in-Guard.is (subst (IsCapFront c.args.cap c.args.right) c.in-Some.ensures.cases.0 c.requires) in
-    subst (λ (u : ℕ). IsDirFront u c.in-Some.rest.now) (sym c.uid.ensures) front
+    let front = dir-front c.args.cap c.args.right c.in-Guard.field-0 c.in-Some.a c.in-Some.rest c.in-Guard.is (subst (IsCapFront c.args.cap c.args.right) c.in-Some.ensures c.requires) in
+    subst (λ (u : ℕ). IsDirFront u c.in-Some.rest) (sym c.uid.ensures) front
 
 pub returns-in-Guard : goal.returns-in-Guard
 returns-in-Guard c =
-    let a = c.in-Some.a.now in
-    let rest = c.in-Some.rest.now in
+    let a = c.in-Some.a in
+    let rest = c.in-Some.rest in
     let on = guard-on c.args.cap c.args.right c.in-Guard.field-0 a rest c.in-Guard.is in
     let told = subst (λ (u : ℕ). Reads (read_dir u) rest c.read_dir.result) c.uid.ensures c.read_dir.ensures in
     let read = reads-on (open_with c.args.cap c.args.right) (read_dir c.args.cap.uid) (a ∷ rest) rest on c.read_dir.result told in
-    subst (λ (t : List Step). Reads (open_with c.args.cap c.args.right) t c.read_dir.result) (sym c.in-Some.ensures.cases.0) read
+    subst (λ (t : List Step). Reads (open_with c.args.cap c.args.right) t c.read_dir.result) (sym c.in-Some.ensures) read

@@ -4,21 +4,21 @@ use Rattle.psos_plan_dir.proofs.read.read_pages.Goals as goal
 
 pub returns-then-is_more : goal.returns-then-is_more
 returns-then-is_more c =
-    let t = c.args.trace.now in
-    let front = c.split_at.ensures.front ∙ ap (λ n. take n t) c.pages_first.ensures.value in
-    let back = c.split_at.ensures.back ∙ ap (λ n. drop n t) c.pages_first.ensures.value in
-    slot-more c.args.slot t c.split_at.result.0.now c.split_at.result.1.now c.requires front back (sym c.is_more.ensures ∙ c.if-is_more.true)
+    let t = c.args.trace in
+    let front = c.split_at-pages.ensures.front ∙ ap (λ n. take n t) c.pages_first.ensures.value in
+    let back = c.split_at-pages.ensures.rest ∙ ap (λ n. drop n t) c.pages_first.ensures.value in
+    slot-more c.args.slot t c.split_at-pages.result.0 c.split_at-pages.result.1 c.requires front back (sym c.is_more.ensures ∙ c.if-is_more.true) c.len.result c.len.ensures
 
 pub of-requires : goal.of-requires
 of-requires c =
-    let t = c.args.trace.now in
-    let front = c.split_at.ensures.front ∙ ap (λ n. take n t) c.pages_first.ensures.value in
-    let back = c.split_at.ensures.back ∙ ap (λ n. drop n t) c.pages_first.ensures.value in
-    slot-open c.args.slot t c.split_at.result.0.now c.split_at.result.1.now c.requires front back (sym c.is_more.ensures ∙ c.if-is_more.false)
+    let t = c.args.trace in
+    let front = c.split_at-pages.ensures.front ∙ ap (λ n. take n t) c.pages_first.ensures.value in
+    let back = c.split_at-pages.ensures.rest ∙ ap (λ n. drop n t) c.pages_first.ensures.value in
+    slot-open c.args.slot t c.split_at-pages.result.0 c.split_at-pages.result.1 c.requires front back (sym c.is_more.ensures ∙ c.if-is_more.false)
 
 pub returns : goal.returns
 returns c =
-    let t = c.args.trace.now in
-    let front = c.split_at.ensures.front ∙ ap (λ n. take n t) c.pages_first.ensures.value in
-    let back = c.split_at.ensures.back ∙ ap (λ n. drop n t) c.pages_first.ensures.value in
-    slot-read c.args.slot t c.split_at.result.0.now c.split_at.result.1.now c.requires front back (sym c.is_more.ensures ∙ c.if-is_more.false) _ c.of.ensures
+    let t = c.args.trace in
+    let front = c.split_at-pages.ensures.front ∙ ap (λ n. take n t) c.pages_first.ensures.value in
+    let back = c.split_at-pages.ensures.rest ∙ ap (λ n. drop n t) c.pages_first.ensures.value in
+    slot-read c.args.slot t c.split_at-pages.result.0 c.split_at-pages.result.1 c.requires front back (sym c.is_more.ensures ∙ c.if-is_more.false) _ c.of.ensures

@@ -12,7 +12,7 @@ kind_gone-requires c =
     let entry = c.in-Ok.ensures.entry in
     let d = c.args.dir.now in
     let both = c.in-Ok.ensures.front f.levels (After d) f.front in
-    let P : ℕ → Type 0 = λ u. IsTraceOf (kind_dropped p.0.1 u (λ _. forgotten d entry.found)) f.levels p.1.now in
+    let P : ℕ → Type 0 = λ u. IsTraceOf (kind_dropped p.0.1 u (λ _. forgotten d entry.found)) f.levels p.1 in
     record { levels = f.levels; lists = f.lists; go = λ _. forgotten d entry.found; front = subst P (sym entry.names) both.0; live = both.1 }
 
 pub returns-in-Ok-kind_gone : goal.returns-in-Ok-kind_gone

@@ -1,4 +1,4 @@
-use Rattle.std.proofs.Common.{true, List, subst, Result, Bor}
+use Rattle.std.proofs.Common.{true, List, subst, Result}
 use Rattle.psos_words.specs.declared.word.Word.TheVariants.{Cap}
 use Rattle.psos_words.specs.Directory.{entry_words}
 use Rattle.psos_calls.specs.declared.next.Next.{Next}
@@ -19,7 +19,7 @@ returns-in-Ok-done c =
     let then = passed there (λ _. put_slot vacancy.dir k (entry_words c.args.name.now vacancy.new true) (give c.args.rd (Cap vacancy.new))) c.enter.ensures in
     record {
       comes = λ part trace tells.
-          let P : Result (Bor (List Step)) Next → Type 0 = λ r. Tells part trace r in
+          let P : Result (List Step) Next → Type 0 = λ r. Tells part trace r in
           passed (subst P c.in-Ok.is tells) (λ _. enrolled vacancy.dir k c.args.name.now c.args.kind vacancy.new c.args.rd) then;
     }
 
@@ -31,6 +31,6 @@ returns-in-Err-done c =
     let next = stops.comes (λ _. put_slot vacancy.dir k (entry_words c.args.name.now vacancy.new true) (give c.args.rd (Cap vacancy.new))) in
     record {
       comes = λ part trace tells.
-          let P : Result (Bor (List Step)) Next → Type 0 = λ r. Tells part trace r in
+          let P : Result (List Step) Next → Type 0 = λ r. Tells part trace r in
           passed (subst P c.in-Ok.is tells) (λ _. enrolled vacancy.dir k c.args.name.now c.args.kind vacancy.new c.args.rd) next;
     }

@@ -3,5 +3,5 @@ use Rattle.psos_plan_life.proofs.vacancy.find_vacancy.Goals as goal
 
 pub returns : goal.returns
 returns c =
-    let room = room_found c.args.dir.now c.args.name.now c.args.trace.now c.if-is_empty.ensures c.requires.front in
-    vacancy_found c.args.dir.now c.args.name.now c.args.trace.now room c.fresh.result c.fresh.ensures
+    let room = room_found c.args.dir.now c.args.name.now c.args.trace c.if-is_empty.ensures c.requires.front in
+    vacancy_found c.args.dir.now c.args.name.now c.args.trace room c.fresh.result c.fresh.ensures

@@ -1,4 +1,4 @@
-use Rattle.std.proofs.Common.{◌≡◌, subst}
+use Rattle.std.proofs.Common.{subst}
 use Rattle.psos_calls.specs.declared.request.Request.{Request}
 use Rattle.psos_calls.specs.Plan.Requests.{plan_of}
 use Rattle.psos_calls.specs.Plan.Trace.{IsTraceOf}

@@ -1,4 +1,4 @@
-use Rattle.std.proofs.Common.{◌≡◌, ℕ, [], get_or, sym, ◌∙◌, subst, arith}
+use Rattle.std.proofs.Common.{◌≡◌, ℕ, [], sym, ◌∙◌, subst, arith}
 use Rattle.psos_text.specs.Draws.{next_draw}
 use Rattle.psos_calls.specs.Language.Script.{Script}
 use Rattle.psos_model.specs.Events.Turns.{enabled_in, IsTurnsOrderFrom}

@@ -11,13 +11,13 @@ use Rattle.psos_plan_dir.proofs.open.Open.find.Goals as goal
 pub find_from-requires-clause-few : goal.find_from-requires-clause-few
 find_from-requires-clause-few c =
     let few = c.self.invariant.list.few in
-    let count = pages-count c.self.inside.calls.now in
+    let count = pages-count c.self.inside.calls in
     omega arith
 
 pub find_from-requires-clause-slots : goal.find_from-requires-clause-slots
-find_from-requires-clause-slots c = list-slots (pages_in c.self.inside.calls.now) c.self.invariant.list
+find_from-requires-clause-slots c = list-slots (pages_in c.self.inside.calls) c.self.invariant.list
 
 pub returns : goal.returns
 returns c =
-    c.find_from.ensures ∙ ap (option_map as_found) (list-find (pages_in c.self.inside.calls.now) c.args.name.now c.self.invariant.list)
+    c.find_from.ensures ∙ ap (option_map as_found) (list-find (pages_in c.self.inside.calls) c.args.name.now c.self.invariant.list)
     ∙ ap (λ (d : Opened). option_map as_found (find d.slots c.args.name.now)) c.self.view_is

@@ -12,15 +12,15 @@ use Rattle.psos_plan_dir.proofs.open.Open.free_slot.Goals as goal
 pub free_from-requires-clause-few : goal.free_from-requires-clause-few
 free_from-requires-clause-few c =
     let few = c.self.invariant.list.few in
-    let count = pages-count c.self.inside.calls.now in
+    let count = pages-count c.self.inside.calls in
     omega arith
 
 pub free_from-requires-clause-slots : goal.free_from-requires-clause-slots
-free_from-requires-clause-slots c = list-slots (pages_in c.self.inside.calls.now) c.self.invariant.list
+free_from-requires-clause-slots c = list-slots (pages_in c.self.inside.calls) c.self.invariant.list
 
 pub returns : goal.returns
 returns c =
-    let pages = pages_in c.self.inside.calls.now in
+    let pages = pages_in c.self.inside.calls in
     let list = c.self.invariant.list in
     c.entry_slot.ensures ∙ ap entry_slot c.free_from.ensures
     ∙ sym (pages-places pages (entry_list (words_of pages)) list.are list.few list.list c.self.invariant.never)

@@ -1,0 +1,34 @@
+-- The calls of a trace that ask for a directory. States docs/requests.md, "Plans".
+use Rattle.std.specs.Prelude.{◌≡◌, ◌≤◌, ◌⊎◌, ℕ, suc, Bool, true, false, List, [], ◌∷◌, length, take, drop, if◌then◌else◌, IsTrue}
+use Rattle.psos_calls.specs.declared.step.Step.{Step}
+use Rattle.psos_calls.specs.Levels.Calls.{LevelCall}
+use Rattle.psos_calls.specs.declared.level_call.LevelCall.TheVariants.{DirAt}
+
+-- the call asks for a directory
+abbrev pub asks_dir : LevelCall → Bool
+asks_dir (DirAt cap right) = true
+asks_dir _ = false
+
+-- how many calls ask for one
+abbrev pub asked : List Step → ℕ
+asked [] = 0
+asked (s ∷ rest) = if asks_dir s.call then suc (asked rest) else asked rest
+
+-- the first call asks for one
+abbrev pub BeginsWithDir : List Step → Type 0
+BeginsWithDir [] = ⊥
+BeginsWithDir (s ∷ rest) = IsTrue (asks_dir s.call)
+
+-- so many calls ask for a directory, and the last of them stands here; with none, the place is the beginning
+pub record IsLastDir (count at : ℕ) (steps : List Step) : Type 0 where
+  pub within : at ≤ length steps
+  pub last : ((count ≡ 0) × (at ≡ 0)) ⊎ ((count ≡ suc (asked (take at steps))) × BeginsWithDir (drop at steps))
+  pub all : count ≡ asked steps
+
+-- the steps from some place on, and how many calls before them ask for a directory. With one that asks, it comes first
+pub record IsSinceDir (steps : List Step) (passed : ℕ) (rest : List Step) : Type 0 where
+  pub at : ℕ
+  pub within : at ≤ length steps
+  pub count : passed ≡ asked (take at steps)
+  pub is : rest ≡ drop at steps
+  pub first : (at ≡ 0) ⊎ BeginsWithDir (drop at steps)
