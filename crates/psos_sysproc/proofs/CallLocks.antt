@@ -2,7 +2,7 @@
 use Rattle.std.proofs.Common.{◌≡◌, ℕ, ◌≤◌, Bool, true, false, ◌&&◌, nat_lt, if◌then◌else◌, IsTrue, refl, sym}
 use Rattle.std.specs.Prelude.{◌-◌, ◌/◌, ◌%◌, ◌==◌, nat_le}
 use Rattle.std.proofs.lemmas.Bool.{lt-ltb}
-use Rattle.psos_calls.specs.declared.level_call.LevelCall.{LevelCall}
+use Rattle.psos_calls.specs.Levels.Calls.{LevelCall}
 use Rattle.psos_calls.specs.declared.level_call.LevelCall.TheVariants.{Post, Draw}
 use Rattle.psos_calls.specs.Locks.{box_of, lock_of}
 use Rattle.psos_calls.specs.Locks.Held.{is_lock}

@@ -1,2 +1,4 @@
-pub mod FallingLocks
 pub mod CallLocks
+pub mod AllLocks
+pub mod LockOwners
+pub mod LockTables

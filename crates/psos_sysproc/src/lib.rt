@@ -4,9 +4,7 @@
 //! (docs/program.md, "Turns"). Nothing here knows a level or a plan.
 #![tactic(auto)]
 
-mod held;
-mod holding;
-mod order;
+mod place;
 mod table;
 mod turns;
 mod want;
