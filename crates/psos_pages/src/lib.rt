@@ -2,6 +2,7 @@
 #![tactic(auto)]
 
 mod pages;
+mod places;
 mod words;
 
 pub use pages::Pages;

@@ -1,14 +1,15 @@
 // Level 7.
-ghost use Rattle.std.specs.Prelude.{◌≡◌, ◌≤◌, ◌<◌, ◌/◌, ℕ, List, Option, Some, None, replicate, length, slice_set, IfOk, IfErr, OnErr};
+ghost use Rattle.std.specs.Prelude.{◌≡◌, ◌≤◌, ◌<◌, ◌/◌, ℕ, false, List, Option, Some, None, replicate, length, slice_set, IfOk, IfErr, OnErr};
 ghost use Rattle.psos_limits.specs.declared.TheConstants.{SLOTS, MOST_WORDS, MOST_PAGE_FRAMES, LEAST_PAGE_FRAMES};
 ghost use Rattle.psos_io.specs.Causes.{HasCause};
 ghost use Rattle.psos_words.specs.Words.{zeros, word_at};
-ghost use Rattle.psos_calls.specs.Levels.Level7.{Can7, IsTaken, act7, around, first_free, page_words, place_in_slot, with_words, written};
+ghost use Rattle.psos_calls.specs.Levels.Answers.{with_any_page};
+ghost use Rattle.psos_calls.specs.Levels.Level7.{Can7, IsTaken, act7, around, first_free, page_words, place_in_slot, reads_page, with_words, written};
 
-use crate::words::{Words, clear, page_at, place, put_four, zero_words};
-use psos_calls::{LevelAnswer, LevelCall, LevelFault};
+use crate::places::Places;
+use crate::words::{put, put_four};
+use psos_calls::{LevelAnswer, LevelCall, LevelFault, NoPage};
 use psos_io::Store;
-use psos_limits::SLOTS;
 use psos_store::Slots;
 use psos_words::{Page, Word};
 use std::alloc::{AllocError, Global};
@@ -19,22 +20,23 @@ use std::marker::Model;
 #[derive(Drop)]
 pub struct Pages<B: Store> {
     taken: Slots,
-    // The words of each slot that was ever taken. There is room for those of all 521 slots.
-    words: Vec<Words>,
+    // Where the words of each slot lie, be it taken or free.
+    places: Places,
     store: B,
 }
 
 impl<B: Store> Model for Pages<B> {
-    ghost use Rattle.std.specs.Prelude.{◌≤◌, vec_capacity};
+    ghost use Rattle.std.specs.Prelude.{◌≡◌, ◌<◌, ◌*◌, length, vec_capacity};
     ghost use Rattle.psos_limits.specs.declared.TheConstants.{SLOTS};
     ghost use Rattle.psos_pages.specs.State.{PagesState};
-    ghost use Rattle.psos_pages.specs.SlotViews.{AreThere, slots_of};
+    ghost use Rattle.psos_pages.specs.SlotViews.{slots_of};
+    ghost use Rattle.psos_pages.specs.PagePlaces.{ArePlaced, all_read};
 
     ghost Value = { PagesState B };
 
-    ghost view = { λ p. record { slots = slots_of p.taken p.words.items; store = p.store } };
+    ghost view = { λ p. record { slots = slots_of p.taken (all_read p.places.shown.items p.places.pages.items); store = p.store } };
 
-    ghost invariant = { λ p. (SLOTS ≤ vec_capacity p.words) × AreThere p.taken p.words.items };
+    ghost invariant = { λ p. (length p.taken ≡ SLOTS) × (SLOTS * 8 < vec_capacity p.places.pages) × ArePlaced p.places.shown.items p.places.own.items p.places.pages.items };
 }
 
 impl<B: Store> Pages<B> {
@@ -50,7 +52,7 @@ impl<B: Store> Pages<B> {
         let _frames = frames;
         Ok(Pages {
             taken: Slots::new(alloc),
-            words: Vec::with_capacity(alloc, SLOTS)?,
+            places: Places::new(alloc)?,
             store,
         })
     }
@@ -68,7 +70,7 @@ impl<B: Store> Pages<B> {
     {
         let Pages {
             taken: _,
-            words: _,
+            places: _,
             store,
         } = self;
         store
@@ -85,11 +87,7 @@ impl<B: Store> Pages<B> {
         let Some(slot) = self.taken.take() else {
             unreachable!()
         };
-        if (slot as usize) < self.words.len() {
-            clear(&mut self.words[slot as usize]);
-        } else {
-            self.words.push_reserved(zero_words());
-        }
+        self.places.clear(slot);
         slot
     }
 
@@ -108,7 +106,7 @@ impl<B: Store> Pages<B> {
         requires within { off < 64 }
         ensures { result ≡ word_at (around self.now.slots page) (place_in_slot page off) }
     {
-        self.words[(page / 8) as usize][place(page, off)]
+        self.places.words(page)[off as usize]
     }
 
     // Changes a word of a page.
@@ -118,15 +116,17 @@ impl<B: Store> Pages<B> {
         ensures slots { self.new.slots ≡ with_words self.old.slots page (slice_set (around self.old.slots page) (place_in_slot page off) word) }
         ensures store { self.new.store ≡ self.old.store }
     {
-        self.words[(page / 8) as usize][place(page, off)] = word;
+        let at = self.places.touch(page);
+        put(&mut self.places.pages[at as usize], off as usize, word);
     }
 
-    // The words of a page.
-    fn page(&self, page: u16) -> Page
+    /// The 64 words of a page, where they lie. Its slot is taken.
+    pub fn page(&self, page: u16) -> &[Word]
         requires { IsTaken self.now.slots (page / 8) }
-        ensures { result ≡ page_words self.now.slots page }
+        ensures words { result.now ≡ page_words self.now.slots page }
+        ensures all { length result.now ≡ 64 }
     {
-        page_at(&self.words[(page / 8) as usize], place(page, 0))
+        self.places.words(page)
     }
 
     // Changes four words of a page.
@@ -136,18 +136,25 @@ impl<B: Store> Pages<B> {
         ensures slots { self.new.slots ≡ with_words self.old.slots page (written (around self.old.slots page) (place_in_slot page off) four.now) }
         ensures store { self.new.store ≡ self.old.store }
     {
-        put_four(&mut self.words[(page / 8) as usize], place(page, off), four);
+        let at = self.places.touch(page);
+        put_four(&mut self.places.pages[at as usize], off as usize, four);
     }
 
-    /// Makes a call of level 7 (docs/levels.md, "Calls"): the state and the answer after it are those of its definition. The
-    /// call's condition holds; a call of another level does nothing and is answered with `Done`. It takes no memory:
-    /// `_alloc` stands there since the calls of all levels have one form.
+    /// Makes a call of level 7 other than the one that reads a page (docs/levels.md, "Calls"): the state and the answer
+    /// after it are those of its definition, and the answer tells no page. The call's condition holds; a call of another
+    /// level does nothing and is answered with `Done`. It takes no memory: `_alloc` stands there since the calls of all
+    /// levels have one form.
     ///
     /// `Err` only where the store's count of faults rose in the call, and it is `Store`: the slots are unchanged. Today
     /// no call of the store is made, and it stays as it is.
-    pub fn act(&mut self, _alloc: Global, call: &LevelCall) -> Result<LevelAnswer, LevelFault>
-        requires { Can7 self.old.slots call.now }
-        ensures done { IfOk result (λ answer. (self.new.slots, answer) ≡ act7 self.old.slots call.now) }
+    pub fn answer(
+        &mut self,
+        _alloc: Global,
+        call: &LevelCall,
+    ) -> Result<LevelAnswer<NoPage>, LevelFault>
+        requires can { Can7 self.old.slots call.now }
+        requires no_page { reads_page call.now ≡ false }
+        ensures done { IfOk result (λ answer. (self.new.slots, with_any_page answer) ≡ act7 self.old.slots call.now) }
         ensures fault { IfErr result (λ fault. fault ≡ LevelFault.Store) }
         ensures unchanged { OnErr result (self.new.slots ≡ self.old.slots) }
         ensures cause { HasCause (B.faults self.old.store) (B.faults self.new.store) result }
@@ -164,12 +171,36 @@ impl<B: Store> Pages<B> {
                 self.put(*page, *off, *word);
                 Ok(LevelAnswer::Done)
             }
-            LevelCall::PageGet { page } => Ok(LevelAnswer::Whole(self.page(*page))),
             LevelCall::FourPut { page, off, words } => {
                 self.put_four(*page, *off, words);
                 Ok(LevelAnswer::Done)
             }
             _ => Ok(LevelAnswer::Done),
+        }
+    }
+
+    /// Makes a call of level 7 (docs/levels.md, "Calls"): the state and the answer after it are those of its definition. The
+    /// call's condition holds; a call of another level does nothing and is answered with `Done`. A page is told by value;
+    /// `answer` and `page` copy none. It takes no memory: `alloc` stands there since the calls of all levels have one form.
+    ///
+    /// `Err` only where the store's count of faults rose in the call, and it is `Store`: the slots are unchanged. Today
+    /// no call of the store is made, and it stays as it is.
+    pub fn act(&mut self, alloc: Global, call: &LevelCall) -> Result<LevelAnswer, LevelFault>
+        requires { Can7 self.old.slots call.now }
+        ensures done { IfOk result (λ answer. (self.new.slots, answer) ≡ act7 self.old.slots call.now) }
+        ensures fault { IfErr result (λ fault. fault ≡ LevelFault.Store) }
+        ensures unchanged { OnErr result (self.new.slots ≡ self.old.slots) }
+        ensures cause { HasCause (B.faults self.old.store) (B.faults self.new.store) result }
+        ensures untouched { self.new.store ≡ self.old.store }
+    {
+        if let LevelCall::PageGet { page } = *call {
+            let mut told = Page::zero();
+            told.copy_from(self.page(page));
+            return Ok(LevelAnswer::Whole(told));
+        }
+        match self.answer(alloc, call) {
+            Ok(answer) => Ok(answer.with_any_page()),
+            Err(fault) => Err(fault),
         }
     }
 }

@@ -1,10 +1,7 @@
-use Rattle.std.proofs.Common.{arith}
 use Rattle.psos_limits.specs.declared.TheConstants.{SLOTS}
-use Rattle.psos_pages.proofs.SlotStates.{slots-free, there-none}
+use Rattle.psos_pages.specs.PagePlaces.{all_read}
+use Rattle.psos_pages.proofs.SlotStates.{slots-free}
 use Rattle.psos_pages.proofs.pages.Pages.new.Goals as goal
 
-pub invariant_of-result : goal.invariant_of-result
-invariant_of-result g c = (omega (arith, c.in_ok-with_capacity.ensures.exact), rw (c.new.ensures, c.in_ok-with_capacity.ensures.items) (there-none SLOTS))
-
 pub returns-clause-free : goal.returns-clause-free
-returns-clause-free g c = rw (c.new.ensures, c.in_ok-with_capacity.ensures.items) (slots-free SLOTS)
+returns-clause-free g c = rw c.new.ensures (slots-free SLOTS (all_read c.in_ok-new.field-0.shown.items c.in_ok-new.field-0.pages.items))

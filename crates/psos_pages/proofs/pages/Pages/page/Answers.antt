@@ -1,10 +1,9 @@
-use Rattle.std.proofs.Common.{◌/◌, ◌∙◌, ap, arith, take, drop}
-use Rattle.psos_calls.specs.Levels.Level7.{place_in_slot}
-use Rattle.psos_pages.proofs.SlotStates.{there-here, words-here}
+use Rattle.std.proofs.Common.{◌/◌, ◌∙◌, ap, sym, length}
+use Rattle.psos_pages.proofs.SeenPages.{slot-within, page-seen}
 use Rattle.psos_pages.proofs.pages.Pages.page.Goals as goal
 
-pub index-requires : goal.index-requires
-index-requires g c = omega (arith, there-here (ap (λ v. v.slots) c.self.view_is) c.self.invariant.1 (c.args.page / 8) c.requires, c.self.inside.words.ok.0)
+pub words-requires-clause-within : goal.words-requires-clause-within
+words-requires-clause-within g c = slot-within c.self.inside.taken (ap (λ v. v.slots) c.self.view_is) c.self.invariant.0 c.self.invariant.2 (c.args.page / 8) c.requires
 
-pub returns : goal.returns
-returns g c = c.page_at.ensures ∙ rw c.place.ensures.place (ap (λ w. take 64 (drop (place_in_slot c.args.page 0) w)) (words-here (ap (λ v. v.slots) c.self.view_is) c.self.invariant.1 (c.args.page / 8) c.requires c.index.result.now c.index.ensures))
+pub returns-clause-words : goal.returns-clause-words
+returns-clause-words g c = c.words.ensures.words ∙ page-seen c.self.inside.taken (ap (λ v. v.slots) c.self.view_is) c.self.invariant.0 c.self.invariant.2 c.args.page c.requires (sym (ap length c.words.ensures.words) ∙ c.words.ensures.all)

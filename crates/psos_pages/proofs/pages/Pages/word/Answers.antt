@@ -1,11 +1,10 @@
-use Rattle.std.proofs.Common.{◌/◌, ap, arith, slice_index_or}
-use Rattle.psos_words.specs.declared.word.Word.TheVariants.{Data}
-use Rattle.psos_calls.specs.Levels.Level7.{place_in_slot}
-use Rattle.psos_pages.proofs.SlotStates.{there-here, words-here}
+use Rattle.std.proofs.Common.{◌/◌, ◌∙◌, ap}
+use Rattle.psos_words.specs.Words.{word_at}
+use Rattle.psos_pages.proofs.SeenPages.{slot-within, word-seen}
 use Rattle.psos_pages.proofs.pages.Pages.word.Goals as goal
 
-pub index-requires : goal.index-requires
-index-requires g c = omega (arith, there-here (ap (λ v. v.slots) c.self.view_is) c.self.invariant.1 (c.args.page / 8) c.requires.taken, c.self.inside.words.ok.0)
+pub words-requires-clause-within : goal.words-requires-clause-within
+words-requires-clause-within g c = slot-within c.self.inside.taken (ap (λ v. v.slots) c.self.view_is) c.self.invariant.0 c.self.invariant.2 (c.args.page / 8) c.requires.taken
 
 pub returns : goal.returns
-returns g c = rw c.place.ensures.place (ap (λ w. slice_index_or w (place_in_slot c.args.page c.args.off) (Data 0)) (words-here (ap (λ v. v.slots) c.self.view_is) c.self.invariant.1 (c.args.page / 8) c.requires.taken c.index.result.now c.index.ensures))
+returns g c = ap (λ ws. word_at ws c.args.off) c.words.ensures.words ∙ word-seen c.self.inside.taken (ap (λ v. v.slots) c.self.view_is) c.self.invariant.0 c.self.invariant.2 c.args.page c.args.off c.requires.taken c.requires.within
