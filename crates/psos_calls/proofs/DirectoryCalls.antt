@@ -2,8 +2,17 @@
 use Rattle.std.proofs.Common.{◌≡◌, ◌⊎◌, inl, inr, ℕ, suc, ◌+◌, ◌≤◌, ◌-◌, Bool, true, false, cond, List, [], ◌∷◌, ◌++◌, length, take, drop, refl, sym, ap, ◌∙◌, subst, arith, length-append}
 use Rattle.std.proofs.lemmas.List.{take-append-le, drop-append-le}
 use Rattle.std.proofs.Math.Seq.{take-append_seam, drop-append_seam}
+use Rattle.psos_caps.specs.Capability.{Capability}
+use Rattle.psos_calls.specs.declared.right.Right.{Right}
+use Rattle.psos_calls.specs.declared.level_call.LevelCall.TheVariants.{DirAt}
 use Rattle.psos_calls.specs.declared.step.Step.{Step}
+use Rattle.psos_calls.specs.Levels.Calls.{LevelCall}
 use Rattle.psos_calls.specs.Plan.Asked.{asks_dir, asked, BeginsWithDir, IsLastDir, IsSinceDir}
+
+-- a call that is not for a directory
+pub no-dir : (call : LevelCall) → ((cap : Capability) (right : Right) → call ≡ DirAt cap right → ⊥) → asks_dir call ≡ false
+no-dir (DirAt cap right) other = absurd (other cap right refl)
+no-dir _ other = refl
 
 -- one more call
 asked-more : (b : Bool) (xs : List Step) (s : Step) → asks_dir s.call ≡ b → asked (xs ++ s ∷ []) ≡ cond b (suc (asked xs)) (asked xs)

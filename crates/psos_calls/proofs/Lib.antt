@@ -4,6 +4,7 @@ pub mod BodyEnds
 pub mod RefusedCalls
 pub mod RightBits
 pub mod DirectoryCalls
+pub mod CallsApart
+pub mod AnswersApart
 pub mod TraceSteps
-pub mod KeptCalls
 pub mod MadeCalls

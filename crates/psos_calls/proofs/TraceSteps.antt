@@ -1,115 +1,124 @@
--- The steps of a trace, by what is kept of them. States docs/requests.md, "Plans".
-use Rattle.std.proofs.Common.{◌≡◌, ℕ, zero, suc, ◌<◌, ◌≤◌, List, [], ◌∷◌, ◌++◌, length, drop, map, slice_index_or, refl, sym, ap, ◌∙◌, subst, arith, length-append}
-use Rattle.std.proofs.lemmas.List.{length-map, map-append, get_or_append_left}
-use Rattle.std.proofs.Math.Seq.{get_or-append_seam}
-use Rattle.psos_words.specs.declared.word.Word.{Word}
-use Rattle.psos_calls.specs.declared.level_answer.LevelAnswer.{LevelAnswer as AnswerOf}
-use Rattle.psos_calls.specs.declared.level_answer.LevelAnswer.TheVariants.{Done, Entered, Got, Is, Guard, Rep, At, Slot, Len, Whole, New, No}
+-- The steps of a trace, by its calls and its answers. States docs/requests.md, "Plans".
+use Rattle.std.proofs.Common.{◌≡◌, ℕ, zero, suc, ◌+◌, ◌-◌, ◌<◌, ◌≤◌, Bool, cond, List, [], ◌∷◌, ◌++◌, Some, length, take, drop, refl, sym, ap, ◌∙◌, subst, arith, length-append}
+use Rattle.std.specs.Prelude.{slice_get, slice_range, IsTrue}
+use Rattle.std.proofs.lemmas.Option.{same_Some, none-some}
+use Rattle.std.proofs.lemmas.List.{drop-take, length-take, length-drop}
+use Rattle.std.proofs.Math.Seq.{drop-drop}
 use Rattle.psos_calls.specs.declared.level.Level.{Level}
-use Rattle.psos_calls.specs.Levels.Calls.{LevelCall}
-use Rattle.psos_calls.specs.declared.made.Made.{Made}
 use Rattle.psos_calls.specs.declared.step.Step.{Step}
-use Rattle.psos_calls.specs.Levels.Answers.{with_page}
-use Rattle.psos_calls.specs.Plan.Asked.{asked, IsLastDir}
+use Rattle.psos_calls.specs.Levels.Calls.{LevelCall}
+use Rattle.psos_calls.specs.Levels.Answers.{LevelAnswer}
+use Rattle.psos_calls.specs.Levels.Level7.{reads_page}
+use Rattle.psos_calls.specs.Plan.Asked.{pages_first, IsLastDir}
+use Rattle.psos_calls.specs.Plan.Steps.{steps_of, EndsReading, IsTrace}
 use Rattle.psos_calls.specs.Plan.Trace.{calls_in}
-use Rattle.psos_calls.specs.Plan.Steps.{step_of, steps_of, IsTold, AreTold, IsTrace}
 use Rattle.psos_calls.proofs.DirectoryCalls.{asked-few}
 
--- pages that have the same words at these places
-pub record AreSameFirst (n : ℕ) (before after : List (List Word)) : Type 0 where
-  pub same : (k : ℕ) → k < n → slice_index_or after k [] ≡ slice_index_or before k []
+-- ---- calls and answers
 
-answer-same : (n : ℕ) (before after : List (List Word)) → AreSameFirst n before after → (a : AnswerOf ℕ) → IsTold n a
-    → with_page (λ k. slice_index_or after k []) a ≡ with_page (λ k. slice_index_or before k []) a
-answer-same n before after same Done h = refl
-answer-same n before after same (Entered label link) h = refl
-answer-same n before after same (Got w) h = refl
-answer-same n before after same (Is kind) h = refl
-answer-same n before after same (Guard guard) h = refl
-answer-same n before after same (Rep rep) h = refl
-answer-same n before after same (At page off) h = refl
-answer-same n before after same (Slot slot) h = refl
-answer-same n before after same (Len len) h = refl
-answer-same n before after same (Whole k) h = ap Whole (same.same k h)
-answer-same n before after same (New cap) h = refl
-answer-same n before after same (No r) h = refl
+pub steps-length : (calls : List (Level × LevelCall)) (answers : List LevelAnswer) → length calls ≡ length answers → length (steps_of calls answers) ≡ length calls
+steps-length [] [] e = refl
+steps-length [] (a ∷ answers) e = refl
+steps-length (c ∷ calls) [] e = omega arith
+steps-length (c ∷ calls) (a ∷ answers) e = ap suc (steps-length calls answers (omega arith))
 
--- steps do not see pages past their own
-pub steps-same : (n : ℕ) (before after : List (List Word)) → AreSameFirst n before after → (made : List Made) → AreTold n made → steps_of after made ≡ steps_of before made
-steps-same n before after same [] h = refl
-steps-same n before after same (m ∷ made) (h, hs) =
-    let one : step_of after m ≡ step_of before m = ap (λ (a : AnswerOf (List Word)). record { level = m.level; call = m.call; answer = a }) (answer-same n before after same m.answer h) in
-    ap (λ (s : Step). s ∷ steps_of after made) one ∙ ap (λ (rest : List Step). step_of before m ∷ rest) (steps-same n before after same made hs)
+pub steps-calls : (calls : List (Level × LevelCall)) (answers : List LevelAnswer) → length calls ≡ length answers → calls_in (steps_of calls answers) ≡ calls
+steps-calls [] [] e = refl
+steps-calls [] (a ∷ answers) e = refl
+steps-calls (c ∷ calls) [] e = absurd (omega arith)
+steps-calls (c ∷ calls) (a ∷ answers) e = ap (λ (rest : List (Level × LevelCall)). c ∷ rest) (steps-calls calls answers (omega arith))
 
-told-more : (n p : ℕ) → n ≤ p → (a : AnswerOf ℕ) → IsTold n a → IsTold p a
-told-more n p le Done h = h
-told-more n p le (Entered label link) h = h
-told-more n p le (Got w) h = h
-told-more n p le (Is kind) h = h
-told-more n p le (Guard guard) h = h
-told-more n p le (Rep rep) h = h
-told-more n p le (At page off) h = h
-told-more n p le (Slot slot) h = h
-told-more n p le (Len len) h = h
-told-more n p le (Whole k) h = omega arith
-told-more n p le (New cap) h = h
-told-more n p le (No r) h = h
+pub steps-more : (calls : List (Level × LevelCall)) (answers : List LevelAnswer) (level : Level) (call : LevelCall) (answer : LevelAnswer) → length calls ≡ length answers
+    → steps_of (calls ++ (level, call) ∷ []) (answers ++ answer ∷ []) ≡ steps_of calls answers ++ record { level = level; call = call; answer = answer } ∷ []
+steps-more [] [] level call answer e = refl
+steps-more [] (a ∷ answers) level call answer e = absurd (omega arith)
+steps-more (c ∷ calls) [] level call answer e = absurd (omega arith)
+steps-more (c ∷ calls) (a ∷ answers) level call answer e =
+    let s : Step = record { level = c.0; call = c.1; answer = a } in
+    ap (λ (rest : List Step). s ∷ rest) (steps-more calls answers level call answer (omega arith))
 
-pub all-told-more : (n p : ℕ) → n ≤ p → (made : List Made) → AreTold n made → AreTold p made
-all-told-more n p le [] h = h
-all-told-more n p le (m ∷ made) (h, hs) = (told-more n p le m.answer h, all-told-more n p le made hs)
+pub step-at : (calls : List (Level × LevelCall)) (answers : List LevelAnswer) (i : ℕ) (level : Level) (call : LevelCall) (answer : LevelAnswer)
+    → slice_get calls i ≡ Some (level, call) → slice_get answers i ≡ Some answer → slice_get (steps_of calls answers) i ≡ Some (record { level = level; call = call; answer = answer })
+step-at [] answers i level call answer e f = absurd (none-some (level, call) e)
+step-at (c ∷ calls) [] i level call answer e f = absurd (none-some answer f)
+step-at (c ∷ calls) (a ∷ answers) zero level call answer e f =
+    ap (λ (d : Level × LevelCall). Some (record { level = d.0; call = d.1; answer = a })) (same_Some c (level, call) e) ∙ ap (λ (b : LevelAnswer). Some (record { level = level; call = call; answer = b })) (same_Some a answer f)
+step-at (c ∷ calls) (a ∷ answers) (suc i) level call answer e f = step-at calls answers i level call answer e f
 
-pub told-with : (n : ℕ) (made : List Made) (m : Made) → AreTold n made → IsTold n m.answer → AreTold n (made ++ m ∷ [])
-told-with n [] m hs h = (h, tt)
-told-with n (x ∷ made) m (hx, hs) h = (hx, told-with n made m hs h)
+-- ---- parts of a list
 
-pub told-from : (n i : ℕ) (made : List Made) → AreTold n made → AreTold n (drop i made)
-told-from n zero made hs = hs
-told-from n (suc i) [] hs = hs
-told-from n (suc i) (x ∷ made) (hx, hs) = told-from n i made hs
+drop-at : (steps : List Step) (i : ℕ) (s : Step) → slice_get steps i ≡ Some s → drop i steps ≡ s ∷ drop (suc i) steps
+drop-at [] i s e = absurd (none-some s e)
+drop-at (x ∷ steps) zero s e = ap (λ (y : Step). y ∷ steps) (same_Some x s e)
+drop-at (x ∷ steps) (suc i) s e = drop-at steps i s e
 
--- one more call, with a page that comes last among the pages
-pub page-step : (pages : List (List Word)) (made : List Made) (words : List Word) (level : Level) (call : LevelCall) (n : ℕ)
-    → n ≡ length pages → AreTold (length pages) made
-    → steps_of (pages ++ words ∷ []) (made ++ record { level = level; call = call; answer = Whole n } ∷ []) ≡ steps_of pages made ++ record { level = level; call = call; answer = Whole words } ∷ []
-page-step pages made words level call n e told =
-    let m : Made = record { level = level; call = call; answer = Whole n } in
-    let more : List (List Word) = pages ++ words ∷ [] in
-    let here : slice_index_or more n [] ≡ words = ap (λ (k : ℕ). slice_index_or more k []) e ∙ get_or-append_seam pages words [] [] in
-    let before : steps_of more made ≡ steps_of pages made = steps-same (length pages) pages more (record { same = λ k h. get_or_append_left pages (words ∷ []) [] k h }) made told in
-    map-append (step_of more) made (m ∷ [])
-    ∙ ap (λ (front : List Step). front ++ step_of more m ∷ []) before
-    ∙ ap (λ (page : List Word). steps_of pages made ++ record { level = level; call = call; answer = Whole page } ∷ []) here
+pub range-first : (steps : List Step) (i j : ℕ) (s : Step) → i < j → slice_get steps i ≡ Some s → slice_range steps i j ≡ s ∷ slice_range steps (i + 1) j
+range-first steps i j s lt e =
+    ap (λ (n : ℕ). take n (drop i steps)) {x = j - i} {y = suc (j - (i + 1))} (omega arith)
+    ∙ ap (λ (rest : List Step). take (suc (j - (i + 1))) rest) (drop-at steps i s e)
+    ∙ ap (λ (n : ℕ). s ∷ take (j - (i + 1)) (drop n steps)) {x = suc i} {y = i + 1} (omega arith)
 
-pub pages-more : (pages : List (List Word)) (made : List Made) (words : List Word) → AreTold (length pages) made → AreTold (length (pages ++ words ∷ [])) made
-pages-more pages made words told = all-told-more (length pages) (length (pages ++ words ∷ [])) (let more = length-append pages (words ∷ []) in omega arith) made told
+pub range-rest : (steps : List Step) (i j n : ℕ) → i + n ≤ j → slice_range steps (i + n) j ≡ drop n (slice_range steps i j)
+range-rest steps i j n le =
+    ap (λ (rest : List Step). take (j - (i + n)) rest) (sym (drop-drop n i steps))
+    ∙ sym (drop-take n (j - (i + n)) (drop i steps))
+    ∙ ap (λ (m : ℕ). drop n (take m (drop i steps))) {x = n + (j - (i + n))} {y = j - i} (omega arith)
 
--- no more steps ask for a directory than there are
-pub few-ask : (pages : List (List Word)) (made : List Made) → asked (steps_of pages made) ≤ length made
-few-ask pages made = let few = asked-few (steps_of pages made) in let same = length-map made (step_of pages) in omega arith
+pub range-length : (steps : List Step) (i j : ℕ) → j ≤ length steps → length (slice_range steps i j) ≡ j - i
+range-length steps i j le =
+    let taken = length-take (j - i) (drop i steps) in
+    let dropped = length-drop i steps in
+    omega arith
 
--- the calls alone
-abbrev pub calls_of : List Made → List (Level × LevelCall)
-calls_of made = map (λ (m : Made). (m.level, m.call)) made
+-- ---- steps that read pages
 
-pub calls-same : (pages : List (List Word)) (made : List Made) → calls_in (steps_of pages made) ≡ calls_of made
-calls-same pages [] = refl
-calls-same pages (m ∷ made) = ap (λ (rest : List (Level × LevelCall)). (m.level, m.call) ∷ rest) (calls-same pages made)
+pub ends-from : (n i : ℕ) (steps : List Step) → EndsReading n steps → EndsReading n (drop i steps)
+ends-from n zero steps h = h
+ends-from n (suc i) [] h = h
+ends-from n (suc i) (s ∷ steps) h = ends-from n i steps h.1
 
--- what holds of a trace holds after one more call with a page
-pub page-kept : (capacity asked at : ℕ) (pages : List (List Word)) (made : List Made) (words : List Word) (level : Level) (call : LevelCall) (n room later place : ℕ)
-    → n ≡ length pages → capacity ≤ room → IsTrace capacity asked at pages made
-    → IsLastDir later place (steps_of pages made ++ record { level = level; call = call; answer = Whole words } ∷ [])
-    → IsTrace room later place (pages ++ words ∷ []) (made ++ record { level = level; call = call; answer = Whole n } ∷ [])
-page-kept capacity asked at pages made words level call n room later place e le t last =
-    let m : Made = record { level = level; call = call; answer = Whole n } in
-    let lp = length-append pages (words ∷ []) in
-    let lm = length-append made (m ∷ []) in
-    let few = t.few in
-    let enough = t.room in
-    record {
-      room = omega arith;
-      few = omega arith;
-      are_told = told-with (length (pages ++ words ∷ [])) made m (pages-more pages made words t.are_told) (omega arith);
-      last_dir = subst (IsLastDir later place) (sym (page-step pages made words level call n e t.are_told)) last;
-    }
+pub all-read : (n : ℕ) (steps : List Step) → EndsReading n steps → length steps ≤ n → pages_first steps ≡ length steps
+all-read n [] h le = refl
+all-read n (s ∷ steps) h le = ap (λ (b : Bool). cond b (suc (pages_first steps)) 0) (h.0 le) ∙ ap suc (all-read n steps h.1 (omega arith))
+
+pub ends-less : (n m : ℕ) → m ≤ n → (steps : List Step) → EndsReading n steps → EndsReading m steps
+ends-less n m le [] h = tt
+ends-less n m le (s ∷ steps) h = (λ few. h.0 (omega arith), ends-less n m le steps h.1)
+
+pub ends-with : (n : ℕ) (steps : List Step) (s : Step) → IsTrue (reads_page s.call) → EndsReading n steps → EndsReading (n + 1) (steps ++ s ∷ [])
+ends-with n [] s read h = (λ le. read, tt)
+ends-with n (x ∷ steps) s read h = (λ le. h.0 (let more = length-append steps (s ∷ []) in omega arith), ends-with n steps s read h.1)
+
+pub ends-none : (steps : List Step) → EndsReading 0 steps
+ends-none [] = tt
+ends-none (s ∷ steps) = (λ le. absurd (omega arith), ends-none steps)
+
+-- ---- what holds of a trace
+
+pub calls-few : (calls : List (Level × LevelCall)) (answers : List LevelAnswer) (steps : List Step) → length calls ≡ length answers → steps_of calls answers ≡ steps → length calls ≡ length steps
+calls-few calls answers steps e view = sym (steps-length calls answers e) ∙ ap length view
+
+-- no more calls ask for a directory than there are
+pub asked-within : (asked at reading : ℕ) (calls : List (Level × LevelCall)) (answers : List LevelAnswer) → IsTrace asked at reading calls answers → asked ≤ length calls
+asked-within asked at reading calls answers t =
+    let few = asked-few (steps_of calls answers) in
+    let long = steps-length calls answers t.answered in
+    let all = t.last_dir.all in
+    omega arith
+
+-- one more call, with its answer
+pub is-trace : (asked at reading : ℕ) (calls : List (Level × LevelCall)) (answers : List LevelAnswer) (level : Level) (call : LevelCall) (answer : LevelAnswer) (more : List (Level × LevelCall)) (told : List LevelAnswer)
+    → length calls ≡ length answers → more ≡ calls ++ (level, call) ∷ [] → told ≡ answers ++ answer ∷ []
+    → IsLastDir asked at (steps_of calls answers ++ record { level = level; call = call; answer = answer } ∷ []) → EndsReading reading (steps_of calls answers ++ record { level = level; call = call; answer = answer } ∷ [])
+    → IsTrace asked at reading more told
+is-trace asked at reading calls answers level call answer more told e m t dir pages =
+    let lc = length-append calls ((level, call) ∷ []) in
+    let la = length-append answers (answer ∷ []) in
+    let steps : steps_of (calls ++ (level, call) ∷ []) (answers ++ answer ∷ []) ≡ steps_of calls answers ++ record { level = level; call = call; answer = answer } ∷ [] = steps-more calls answers level call answer e in
+    let one : IsTrace asked at reading (calls ++ (level, call) ∷ []) (answers ++ answer ∷ []) = record {
+      answered = omega arith;
+      last_dir = subst (IsLastDir asked at) (sym steps) dir;
+      last_pages = subst (EndsReading reading) (sym steps) pages;
+    } in
+    let two = subst (λ (cs : List (Level × LevelCall)). IsTrace asked at reading cs (answers ++ answer ∷ [])) (sym m) one in
+    subst (λ (rest : List LevelAnswer). IsTrace asked at reading more rest) (sym t) two

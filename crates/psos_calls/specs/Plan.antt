@@ -1,7 +1,8 @@
 -- Plans: trees of level calls, each of which closes its request in the end. States docs/requests.md, "Plans".
 pub mod Kept
-pub mod Steps
+pub mod Told
 pub mod Asked
+pub mod Steps
 pub mod Parts
 pub mod Segments
 pub mod Directories

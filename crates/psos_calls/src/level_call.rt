@@ -1,15 +1,17 @@
 // What a plan asks of the levels.
 ghost use Rattle.std.specs.Prelude.{◌≡◌};
-ghost use Rattle.psos_calls.specs.Levels.Calls.{with_four};
+ghost use Rattle.std.specs.Prelude.{option_map};
+ghost use Rattle.psos_calls.specs.Plan.Kept.{kept_at};
 
+use crate::kept_call::KeptCall;
 use crate::{Kind, Right};
 use psos_caps::{Cap, Rights, Uid};
 use psos_words::Word;
 
-/// A call of one level's function (docs/levels.md, "Calls"). `F` says how the words of `FourPut` are told: as they are,
-/// or by where they lie among the calls of an entry.
+/// A call of one level's function (docs/levels.md, "Calls"). `F` says how the words of `FourPut` are told, and `W` how
+/// the word of `Locate` is: as they are, or, in a `KeptCall`, by where they lie among others.
 #[derive(Clone, Copy)]
-pub enum LevelCall<F = [Word; 4]> {
+pub enum LevelCall<F = [Word; 4], W = Option<Word>> {
     // Level 13
     /// Nothing is asked; the level is held from here on.
     Hold13,
@@ -113,7 +115,7 @@ pub enum LevelCall<F = [Word; 4]> {
         cap: Cap,
         off: u64,
         need: Right,
-        word: Option<Word>,
+        word: W,
     },
     /// The slot of a segment.
     SlotOf {
@@ -181,9 +183,9 @@ pub enum LevelCall<F = [Word; 4]> {
 }
 
 impl LevelCall {
-    /// The same call; if it writes four words, they are told by this place.
-    pub(crate) fn with_four(&self, four: usize) -> LevelCall<usize>
-        ensures { result ≡ with_four (λ _. four) self.now }
+    /// The same call, with its words told to lie from this place on.
+    pub(crate) fn kept_at(&self, at: u8) -> KeptCall
+        ensures { result ≡ kept_at at self.now }
     {
         match *self {
             LevelCall::Hold13 => LevelCall::Hold13,
@@ -217,7 +219,7 @@ impl LevelCall {
                 cap,
                 off,
                 need,
-                word,
+                word: place_of(word, at),
             },
             LevelCall::SlotOf { uid } => LevelCall::SlotOf { uid },
             LevelCall::SegMake {
@@ -253,9 +255,19 @@ impl LevelCall {
             LevelCall::FourPut { page, off, .. } => LevelCall::FourPut {
                 page,
                 off,
-                words: four,
+                words: at,
             },
             LevelCall::Fresh => LevelCall::Fresh,
         }
+    }
+}
+
+// Where a word lies, if there is one.
+fn place_of(word: Option<Word>, at: u8) -> Option<u8>
+    ensures { result ≡ option_map (λ _. at) word }
+{
+    match word {
+        Some(_) => Some(at),
+        None => None,
     }
 }

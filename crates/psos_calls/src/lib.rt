@@ -3,15 +3,19 @@
 
 mod answer;
 mod bodies;
+mod call_ref;
 pub mod close;
 mod code;
 mod code_row;
 mod effect;
 mod entry;
 mod frame;
+mod kept_answers;
+mod kept_call;
+mod kept_calls;
 mod kept_pages;
 mod kind;
-mod last_dir;
+mod landmarks;
 mod laws;
 mod level;
 mod level_answer;
@@ -20,7 +24,6 @@ mod level_fault;
 mod line;
 mod lock_id;
 mod locks;
-mod made;
 mod names;
 mod next;
 mod no_page;
@@ -43,6 +46,7 @@ mod user_text;
 mod win_row;
 
 pub use answer::Answer;
+pub use call_ref::CallRef;
 pub use code::Code;
 pub use code_row::CodeRow;
 pub use effect::Effect;

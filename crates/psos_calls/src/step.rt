@@ -1,10 +1,10 @@
 // A call that was made.
-use crate::{Level, LevelAnswer, LevelCall, Sheet};
+use crate::{CallRef, Level, LevelAnswer, Sheet};
 
 /// One call of an open request, and its answer, as they lie in a trace.
 #[derive(Drop)]
 pub struct Step<'a> {
     pub level: Level,
-    pub call: LevelCall,
+    pub call: CallRef<'a>,
     pub answer: LevelAnswer<Sheet<'a>>,
 }

@@ -1,31 +1,30 @@
 // The calls of a closed request.
-ghost use Rattle.std.specs.Prelude.{◌≡◌, [], ◌∷◌, ◌++◌, length, IfOk, OnOk, OnErr};
-ghost use Rattle.psos_calls.specs.Plan.Kept.{fours_with};
+ghost use Rattle.std.specs.Prelude.{◌≡◌, [], length, IfOk};
+ghost use Rattle.psos_calls.specs.Plan.Kept.{calls_of};
 
-use crate::{Level, LevelCall};
+use crate::kept_call::KeptCall;
 use psos_words::Word;
 use std::alloc::{AllocError, Global};
 use std::marker::Model;
 
-/// The calls that a request made, in order, without their answers. It is seen as their list.
+/// The calls that a request made, in order, without their answers: those of a trace (`Trace::calls`). It is seen as
+/// their list, each with its level.
 #[derive(Drop)]
 pub struct Steps {
-    // A call that writes four words tells which of those below they are, so the others take no room for them.
-    calls: Vec<(Level, LevelCall<usize>)>,
-    fours: Vec<[Word; 4]>,
+    calls: Vec<KeptCall>,
+    // The words of those that have some.
+    words: Vec<Word>,
 }
 
 impl Model for Steps {
-    ghost use Rattle.std.specs.Prelude.{List, length, map};
+    ghost use Rattle.std.specs.Prelude.{List};
     ghost use Rattle.psos_calls.specs.declared.level.Level.{Level};
     ghost use Rattle.psos_calls.specs.Levels.Calls.{LevelCall};
-    ghost use Rattle.psos_calls.specs.Plan.Kept.{call_of, AreAmong};
+    ghost use Rattle.psos_calls.specs.Plan.Kept.{calls_of};
 
     ghost Value = { List (Level × LevelCall) };
 
-    ghost view = { λ s. map (call_of s.fours.items) s.calls.items };
-
-    ghost invariant = { λ s. AreAmong (length s.fours.items) s.calls.items };
+    ghost view = { λ s. calls_of s.words.items s.calls.items };
 }
 
 impl Steps {
@@ -35,29 +34,26 @@ impl Steps {
     {
         Steps {
             calls: Vec::new(alloc),
-            fours: Vec::new(alloc),
+            words: Vec::new(alloc),
         }
     }
 
-    /// No call, with room for so many, so that no more memory is taken than these need. `Err` only where memory runs
-    /// out.
-    pub fn with_room(alloc: Global, n: usize) -> Result<Steps, AllocError>
-        ensures { IfOk result (λ s. s ≡ []) }
+    // The calls that are kept so, with their words among these, in no more memory than they need.
+    pub(crate) fn of(
+        alloc: Global,
+        calls: &[KeptCall],
+        words: &[Word],
+    ) -> Result<Steps, AllocError>
+        ensures { IfOk result (λ s. s ≡ calls_of words.now calls.now) }
     {
+        let mut kept = Vec::with_capacity(alloc, calls.len())?;
+        kept.extend_from_slice(calls)?;
+        let mut apart = Vec::with_capacity(alloc, words.len())?;
+        apart.extend_from_slice(words)?;
         Ok(Steps {
-            calls: Vec::with_capacity(alloc, n)?,
-            fours: Vec::new(alloc),
+            calls: kept,
+            words: apart,
         })
-    }
-
-    /// One more call at the end. `Err` only where memory runs out: nothing is changed.
-    pub fn push(&mut self, level: Level, call: &LevelCall) -> Result<(), AllocError>
-        ensures ok { OnOk result (self.new ≡ self.old ++ (level, call.now) ∷ []) }
-        ensures err { OnErr result (self.new ≡ self.old) }
-    {
-        let four = keep_four(&mut self.fours, call)?;
-        self.calls.push((level, call.with_four(four)))?;
-        Ok(())
     }
 
     /// How many calls there are.
@@ -66,18 +62,4 @@ impl Steps {
     {
         self.calls.len()
     }
-}
-
-// The four words of a call, if it writes four, come last among others; the place where they are, or would be.
-fn keep_four(fours: &mut Vec<[Word; 4]>, call: &LevelCall) -> Result<usize, AllocError>
-    ensures place { IfOk result (λ k. k ≡ length fours.old.items) }
-    ensures ok { OnOk result (fours.new.items ≡ fours_with fours.old.items call.now) }
-    ensures err { OnErr result (fours.new.items ≡ fours.old.items) }
-{
-    let at = fours.len();
-    if let LevelCall::FourPut { words, .. } = call {
-        fours.reserve_exact(1)?;
-        fours.push_reserved(*words);
-    }
-    Ok(at)
 }

@@ -3,7 +3,7 @@ ghost use Rattle.std.specs.Prelude.{◌≡◌, ◌≤◌, ◌<◌, ◌+◌, leng
 ghost use Rattle.psos_model.specs.Text.Output.{calls_of};
 
 use crate::lines::name;
-use psos_calls::{Entry, Level, LevelCall, Names, Reply, Script, Steps, UserText};
+use psos_calls::{Entry, LevelAnswer, LevelCall, Names, Reply, Script, Trace, UserText};
 use psos_io::{MemSink, Sink};
 use psos_journal::Entries;
 use psos_print::{PrintFault, done_line, put_transcript};
@@ -14,15 +14,15 @@ use std::alloc::{AllocError, Global};
 fn entry(alloc: Global, user: u8, n: u16, called: bool) -> Result<Entry, AllocError>
     ensures { IfOk result (λ e. length e.steps ≤ 1) }
 {
-    let mut steps = Steps::empty(alloc);
+    let mut trace = Trace::new(alloc)?;
     if called {
-        steps.push(Level::L0, &LevelCall::Fresh)?;
+        trace.push(&LevelCall::Fresh, LevelAnswer::Done);
     }
     Ok(Entry {
         user,
         n,
         m: 0,
-        steps,
+        steps: trace.calls(alloc)?,
         reply: Reply::Data(5),
     })
 }

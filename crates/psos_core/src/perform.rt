@@ -64,12 +64,12 @@ pub(crate) fn make<B: Store>(
     ensures cause { MayStop (B.faults levels.old.pages.store) (B.faults levels.new.pages.store) result }
 {
     if let LevelCall::PageGet { page } = *call {
-        trace.push_page(level, call, levels.pages.page(page));
+        trace.push_page(call, levels.pages.page(page));
         return Ok(());
     }
     match levels.answer(alloc, level, call) {
         Ok(answer) => {
-            trace.push(level, call, answer);
+            trace.push(call, answer);
             Ok(())
         }
         Err(fault) => Err(stop_cause(&fault)),

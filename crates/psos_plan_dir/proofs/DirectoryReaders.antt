@@ -30,7 +30,8 @@ use Rattle.psos_calls.specs.Plan.{if_guard, if_rep, if_slot}
 use Rattle.psos_calls.specs.Language.Capabilities.{uid}
 use Rattle.psos_calls.specs.Plan.Parts.{Opened, read_pages, read_rep, read_dir}
 use Rattle.psos_calls.specs.Plan.Trace.{IsTraceOf}
-use Rattle.psos_plan_dir.specs.Pages.{pages_first, pages_in, is_more, IsOpen, opened_by}
+use Rattle.psos_calls.specs.Plan.Asked.{pages_first}
+use Rattle.psos_plan_dir.specs.Pages.{pages_in, is_more, IsOpen, opened_by}
 use Rattle.psos_plan_dir.specs.Reads.{open_with, IsCapFront, IsDirFront, IsRepFront, IsSlotFront, IsNext, GoesOn, IsRead}
 use Rattle.psos_plan_dir.proofs.Representations.{HoldsList, holds}
 use Rattle.psos_plan_dir.proofs.PlanSteps.{ask-on, front-on}

@@ -23,7 +23,8 @@ use Rattle.psos_calls.specs.Plan.{Plan, Ask, Close, refuse, if_page}
 use Rattle.psos_calls.specs.Plan.Parts.{Opened, opened, read_pages}
 use Rattle.psos_calls.specs.Plan.Steps.{is_nothing}
 use Rattle.psos_calls.specs.Plan.Trace.{followed, next_of, IsTraceOf}
-use Rattle.psos_plan_dir.specs.Pages.{pages_first, page_in, pages_in, last_page, is_more, IsWhole}
+use Rattle.psos_calls.specs.Plan.Asked.{pages_first}
+use Rattle.psos_plan_dir.specs.Pages.{page_in, pages_in, last_page, is_more, IsWhole}
 use Rattle.psos_plan_dir.specs.Reads.{Reader, IsNoPage, GoesOn}
 use Rattle.psos_plan_dir.proofs.Representations.{HoldsList, Before, page-long, front-is, front-never, front-decodes, all-pages, list-never}
 use Rattle.psos_plan_dir.proofs.PlanSteps.{goes-then, ask-on}

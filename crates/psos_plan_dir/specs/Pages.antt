@@ -1,5 +1,5 @@
 -- The pages that calls of a trace answered. States docs/requests.md, "Plans".
-use Rattle.std.specs.Prelude.{ℕ, ◌<◌, suc, ◌&&◌, Bool, not, List, [], ◌∷◌, length, IsTrue, nat_lt, if◌then◌else◌}
+use Rattle.std.specs.Prelude.{ℕ, ◌<◌, ◌&&◌, Bool, not, List, [], ◌∷◌, length, IsTrue, nat_lt}
 use Rattle.std.specs.List.{AllByRecursion}
 use Rattle.psos_limits.specs.declared.TheConstants.{SLOTS}
 use Rattle.psos_words.specs.declared.word.Word.{Word}
@@ -9,14 +9,8 @@ use Rattle.psos_dirrep.specs.EntryLists.{entry_list, IsEntryList}
 use Rattle.psos_calls.specs.declared.step.Step.{Step}
 use Rattle.psos_calls.specs.Levels.Answers.{LevelAnswer}
 use Rattle.psos_calls.specs.declared.level_answer.LevelAnswer.TheVariants.{Whole}
-use Rattle.psos_calls.specs.Levels.Level7.{reads_page}
 use Rattle.psos_calls.specs.Plan.Parts.{Opened}
 use Rattle.psos_calls.specs.Plan.Steps.{is_nothing}
-
--- how many calls in front read pages
-abbrev pub pages_first : List Step → ℕ
-pages_first [] = 0
-pages_first (s ∷ rest) = if reads_page s.call then suc (pages_first rest) else 0
 
 -- the page that was answered
 abbrev pub page_in : LevelAnswer → List Word

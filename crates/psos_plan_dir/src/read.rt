@@ -1,9 +1,8 @@
 // A directory is read, after the answers so far.
-ghost use Rattle.std.specs.Prelude.{◌≡◌, ◌≤◌, [], length};
+ghost use Rattle.std.specs.Prelude.{◌≡◌, []};
 ghost use Rattle.psos_words.specs.Directory.{has_never};
-ghost use Rattle.psos_calls.specs.Levels.Level7.{reads_page as page_read};
 ghost use Rattle.psos_calls.specs.Plan.Parts.{read_dir as dir_read, read_pages as pages_read, read_rep as rep_read};
-ghost use Rattle.psos_plan_dir.specs.Pages.{is_more as more, last_page, pages_first as counted};
+ghost use Rattle.psos_plan_dir.specs.Pages.{is_more as more, last_page};
 ghost use Rattle.psos_plan_dir.specs.Reads.{open_with, IsCapFront, IsDirFront, IsRepFront, IsSlotFront, Reads};
 
 use crate::{Open, Reading};
@@ -65,35 +64,12 @@ fn read_pages<'a>(slot: u16, trace: StepSlice<'a>) -> Reading<'a>
     requires { IsSlotFront slot trace }
     ensures { Reads (pages_read 8 slot 0 []) trace.entry result }
 {
-    let (pages, rest) = trace.split_at(pages_first(&trace));
+    let (pages, rest) = trace.split_at(trace.pages_first());
     if is_more(&pages, &rest) {
         let page = 8 * slot + pages.len() as u16;
         return Reading::Next(Next::Call(Level::L7, LevelCall::PageGet { page }));
     }
     Reading::Done(Open::of(slot, pages), rest)
-}
-
-// How many calls in front read pages.
-fn pages_first(trace: &StepSlice<'_>) -> usize
-    ensures value { result ≡ counted trace.now }
-    ensures within { result ≤ length trace.now }
-{
-    let Some((first, rest)) = trace.split_first() else {
-        return 0;
-    };
-    if !reads_page(&first.call) {
-        return 0;
-    }
-    1 + pages_first(&rest)
-}
-
-fn reads_page(call: &LevelCall) -> bool
-    ensures { result ≡ page_read call.now }
-{
-    match call {
-        LevelCall::PageGet { .. } => true,
-        _ => false,
-    }
 }
 
 // Whether one more page is to be read.

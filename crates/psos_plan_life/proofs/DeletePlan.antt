@@ -1,5 +1,6 @@
 -- The plan of `delete`, part by part.
 use Rattle.std.proofs.Common.{◌≡◌, ℕ, Bool, true, false, List, [], ◌∷◌, Option, Some, None, Result, Ok, Err, refl, sym, ap, subst, ◌∙◌}
+use Rattle.std.proofs.lemmas.Option.{same_Some, none-some}
 use Rattle.psos_table.specs.Table.{at}
 use Rattle.psos_caps.specs.Capability.{Capability}
 use Rattle.psos_caps.specs.declared.cap.Uid.{Uid}
@@ -13,6 +14,7 @@ use Rattle.psos_calls.specs.declared.kind.Kind.TheVariants.{Segment, Directory}
 use Rattle.psos_calls.specs.declared.right.Right.TheVariants.{Delete}
 use Rattle.psos_calls.specs.declared.refusal.Refusal.TheVariants.{NotCap, UnknownName, NotDistinguished, NotEmpty}
 use Rattle.psos_calls.specs.declared.level_call.LevelCall.TheVariants.{Hold13, Hold11, KindOf, DirGone}
+use Rattle.psos_calls.specs.Levels.Calls.{LevelCall}
 use Rattle.psos_calls.specs.Levels.Answers.{LevelAnswer}
 use Rattle.psos_calls.specs.declared.level_answer.LevelAnswer.TheVariants.{Is}
 use Rattle.psos_calls.specs.declared.next.Next.{Next}
@@ -22,6 +24,7 @@ use Rattle.psos_calls.specs.Levels.Level11.{LifeState}
 use Rattle.psos_calls.specs.Levels.{Levels}
 use Rattle.psos_calls.specs.Plan.{Plan, Ask, refuse, if_kind}
 use Rattle.psos_calls.specs.Language.Capabilities.{uid}
+use Rattle.psos_calls.specs.Plan.Asked.{kind_asked}
 use Rattle.psos_calls.specs.Plan.Steps.{is_nothing}
 use Rattle.psos_calls.specs.Plan.Parts.{Opened}
 use Rattle.psos_calls.specs.Plan.Objects.{is_empty, plan_delete}
@@ -33,6 +36,10 @@ use Rattle.psos_plan_life.proofs.PlanSequence.{passed}
 use Rattle.psos_plan_life.proofs.CreationPlans.{cap_is}
 
 -- ---- what is to go is picked
+
+pub asks-kind : (call : LevelCall) (u : Uid) → kind_asked call ≡ Some u → call ≡ KindOf u
+asks-kind (KindOf v) u e = ap KindOf (same_Some v u e)
+asks-kind _ u e = absurd (none-some u e)
 
 -- by what is found, and by its mark
 abbrev Looked : Option Found → (Found → Plan) → Plan

@@ -79,7 +79,7 @@ fn pick<'a>(
     let Some((step, rest)) = trace.split_first() else {
         return Err(look(dir, name));
     };
-    let LevelCall::KindOf { uid } = step.call else {
+    let Some(uid) = step.call.kind_asked() else {
         unreachable!();
     };
     match step.answer {

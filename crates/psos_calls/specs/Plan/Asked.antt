@@ -1,8 +1,10 @@
--- The calls of a trace that ask for a directory. States docs/requests.md, "Plans".
-use Rattle.std.specs.Prelude.{◌≡◌, ◌≤◌, ◌⊎◌, ℕ, suc, Bool, true, false, List, [], ◌∷◌, length, take, drop, if◌then◌else◌, IsTrue}
+-- What the calls of a trace ask for. States docs/requests.md, "Plans".
+use Rattle.std.specs.Prelude.{◌≡◌, ◌≤◌, ◌⊎◌, ℕ, suc, Bool, true, false, Option, Some, None, List, [], ◌∷◌, length, take, drop, if◌then◌else◌, IsTrue}
+use Rattle.psos_caps.specs.declared.cap.Uid.{Uid}
 use Rattle.psos_calls.specs.declared.step.Step.{Step}
 use Rattle.psos_calls.specs.Levels.Calls.{LevelCall}
-use Rattle.psos_calls.specs.declared.level_call.LevelCall.TheVariants.{DirAt}
+use Rattle.psos_calls.specs.declared.level_call.LevelCall.TheVariants.{DirAt, KindOf}
+use Rattle.psos_calls.specs.Levels.Level7.{reads_page}
 
 -- the call asks for a directory
 abbrev pub asks_dir : LevelCall → Bool
@@ -32,3 +34,15 @@ pub record IsSinceDir (steps : List Step) (passed : ℕ) (rest : List Step) : Ty
   pub count : passed ≡ asked (take at steps)
   pub is : rest ≡ drop at steps
   pub first : (at ≡ 0) ⊎ BeginsWithDir (drop at steps)
+
+-- ---- what else a call asks for
+
+-- how many calls in front read pages
+abbrev pub pages_first : List Step → ℕ
+pages_first [] = 0
+pages_first (s ∷ rest) = if reads_page s.call then suc (pages_first rest) else 0
+
+-- the object whose kind is asked
+abbrev pub kind_asked : LevelCall → Option Uid
+kind_asked (KindOf uid) = Some uid
+kind_asked _ = None

@@ -1,25 +1,55 @@
--- How an entry keeps its calls: four words that one of them writes lie apart. States docs/requests.md, "Plans".
-use Rattle.std.specs.Prelude.{ℕ, ◌<◌, ⊤, List, [], ◌∷◌, ◌++◌, slice_index_or}
+-- How calls are kept: the words that few of them have lie apart. States docs/requests.md, "Plans".
+use Rattle.std.specs.Prelude.{◌≡◌, ℕ, ◌+◌, ◌*◌, ◌<◌, ◌≤◌, ⊤, List, [], ◌∷◌, Option, Some, option_map, length, map, take, drop, slice_index_or}
 use Rattle.std.specs.List.{AllByRecursion}
+use Rattle.psos_limits.specs.declared.TheConstants.{TRACE_ROOM}
 use Rattle.psos_words.specs.declared.word.Word.{Word}
+use Rattle.psos_words.specs.declared.word.Word.TheVariants.{Data}
 use Rattle.psos_calls.specs.declared.level.Level.{Level}
 use Rattle.psos_calls.specs.declared.level_call.LevelCall.{LevelCall as CallOf}
-use Rattle.psos_calls.specs.declared.level_call.LevelCall.TheVariants.{FourPut}
-use Rattle.psos_calls.specs.Levels.Calls.{LevelCall, with_four}
+use Rattle.psos_calls.specs.declared.level_call.LevelCall.TheVariants.{Locate, FourPut}
+use Rattle.psos_calls.specs.Levels.{level_of}
+use Rattle.psos_calls.specs.Levels.Calls.{LevelCall, with_words}
 
--- the call that is kept so, with its four words among these
-abbrev pub call_of : List (List Word) → Level × CallOf ℕ → Level × LevelCall
-call_of fours kept = (kept.0, with_four (λ k. slice_index_or fours k []) kept.1)
+-- a call that tells from where on its words lie among others
+abbrev pub KeptCall : Type 0
+KeptCall = CallOf ℕ (Option ℕ)
 
--- the four words of a call are one of so many
-abbrev pub IsAmong : ℕ → CallOf ℕ → Type 0
-IsAmong fours (FourPut page off k) = k < fours
-IsAmong fours _ = ⊤
+-- the call is kept so, with its words from this place on
+abbrev pub kept_at : ℕ → LevelCall → KeptCall
+kept_at k call = with_words (λ _. k) (option_map (λ _. k)) call
 
-abbrev pub AreAmong : ℕ → List (Level × CallOf ℕ) → Type 0
-AreAmong fours kept = AllByRecursion (λ (c : Level × CallOf ℕ). IsAmong fours c.1) kept
+-- the words of a call that lie apart
+abbrev pub words_in : LevelCall → List Word
+words_in (Locate cap off need (Some word)) = word ∷ []
+words_in (FourPut page off words) = words
+words_in _ = []
 
--- the fours with that of one more call, if it writes four words
-abbrev pub fours_with : List (List Word) → LevelCall → List (List Word)
-fours_with fours (FourPut page off words) = fours ++ words ∷ []
-fours_with fours _ = fours
+-- four words are written, no more and no fewer
+abbrev pub WritesFour : LevelCall → Type 0
+WritesFour (FourPut page off words) = length words ≡ 4
+WritesFour _ = ⊤
+
+-- the call that is kept so, with its words among these
+abbrev pub call_of : List Word → KeptCall → LevelCall
+call_of words kept = with_words (λ k. take 4 (drop k words)) (option_map (λ k. slice_index_or words k (Data 0))) kept
+
+-- the calls that are kept so, with their levels
+abbrev pub calls_of : List Word → List KeptCall → List (Level × LevelCall)
+calls_of words kept = map (λ c. (level_of (call_of words c), call_of words c)) kept
+
+-- the words of a call are among so many
+abbrev pub IsAmong : ℕ → KeptCall → Type 0
+IsAmong words (Locate cap off need (Some k)) = k < words
+IsAmong words (FourPut page off k) = k + 4 ≤ words
+IsAmong words _ = ⊤
+
+abbrev pub AreAmong : ℕ → List KeptCall → Type 0
+AreAmong words kept = AllByRecursion (IsAmong words) kept
+
+-- calls of an open request are at most as many as there is room for, and each has at most four words
+pub record AreKept (room_for_calls room_for_words : ℕ) (words : List Word) (kept : List KeptCall) : Type 0 where
+  pub room : TRACE_ROOM ≤ room_for_calls
+  pub words_room : 4 * TRACE_ROOM ≤ room_for_words
+  pub few : length kept ≤ TRACE_ROOM
+  pub few_words : length words ≤ 4 * length kept
+  pub among : AreAmong (length words) kept

@@ -1,36 +1,27 @@
--- How the steps of a trace are kept: their pages lie apart, and an answer tells which is its own. States docs/requests.md, "Plans".
-use Rattle.std.specs.Prelude.{ℕ, ◌<◌, ◌≤◌, ⊤, Bool, true, false, List, [], ◌∷◌, Option, Some, None, length, map, slice_index_or}
-use Rattle.std.specs.List.{AllByRecursion}
-use Rattle.psos_limits.specs.declared.TheConstants.{TRACE_ROOM}
-use Rattle.psos_words.specs.declared.word.Word.{Word}
-use Rattle.psos_calls.specs.declared.made.Made.{Made}
+-- The steps of a trace: calls that were made, each with its answer. States docs/requests.md, "Plans".
+use Rattle.std.specs.Prelude.{◌≡◌, ℕ, ◌≤◌, Bool, true, false, List, [], ◌∷◌, Option, Some, None, length, IsTrue}
+use Rattle.psos_calls.specs.declared.level.Level.{Level}
 use Rattle.psos_calls.specs.declared.step.Step.{Step}
-use Rattle.psos_calls.specs.declared.level_answer.LevelAnswer.{LevelAnswer as AnswerOf}
-use Rattle.psos_calls.specs.declared.level_answer.LevelAnswer.TheVariants.{Whole}
-use Rattle.psos_calls.specs.Levels.Answers.{with_page}
+use Rattle.psos_calls.specs.Levels.Calls.{LevelCall}
+use Rattle.psos_calls.specs.Levels.Answers.{LevelAnswer}
+use Rattle.psos_calls.specs.Levels.Level7.{reads_page}
 use Rattle.psos_calls.specs.Plan.Asked.{IsLastDir}
 
--- the step that is kept so, with its page among these
-abbrev pub step_of : List (List Word) → Made → Step
-step_of pages made = record { level = made.level; call = made.call; answer = with_page (λ k. slice_index_or pages k []) made.answer }
+-- calls that were made, and what they were answered
+abbrev pub steps_of : List (Level × LevelCall) → List LevelAnswer → List Step
+steps_of (c ∷ calls) (a ∷ answers) = record { level = c.0; call = c.1; answer = a } ∷ steps_of calls answers
+steps_of _ _ = []
 
-abbrev pub steps_of : List (List Word) → List Made → List Step
-steps_of pages made = map (step_of pages) made
+-- the last so many steps read pages
+abbrev pub EndsReading : ℕ → List Step → Type 0
+EndsReading n [] = Unit {0}
+EndsReading n (s ∷ rest) = (length (s ∷ rest) ≤ n → IsTrue (reads_page s.call)) × EndsReading n rest
 
--- the page of an answer is one of so many
-abbrev pub IsTold : ℕ → AnswerOf ℕ → Type 0
-IsTold pages (Whole k) = k < pages
-IsTold pages _ = ⊤
-
-abbrev pub AreTold : ℕ → List Made → Type 0
-AreTold pages made = AllByRecursion (λ (m : Made). IsTold pages m.answer) made
-
--- a trace has room for all steps that there may be, no more pages than steps, and knows the last call for a directory
-pub record IsTrace (capacity asked at : ℕ) (pages : List (List Word)) (made : List Made) : Type 0 where
-  pub room : TRACE_ROOM ≤ capacity
-  pub few : length pages ≤ length made
-  pub are_told : AreTold (length pages) made
-  pub last_dir : IsLastDir asked at (steps_of pages made)
+-- a trace has an answer to each of its calls, and knows the last call for a directory, and how many of its last calls read pages
+pub record IsTrace (asked at reading : ℕ) (calls : List (Level × LevelCall)) (answers : List LevelAnswer) : Type 0 where
+  pub answered : length calls ≡ length answers
+  pub last_dir : IsLastDir asked at (steps_of calls answers)
+  pub last_pages : EndsReading reading (steps_of calls answers)
 
 -- ---- how a list is taken apart
 

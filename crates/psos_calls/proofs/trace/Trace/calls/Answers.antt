@@ -1,14 +1,12 @@
-use Rattle.std.proofs.Common.{List, ◌++◌, sym, ap, ◌∙◌}
+use Rattle.std.proofs.Common.{◌≡◌, List, sym, ap, subst, ◌∙◌}
+use Rattle.std.specs.Prelude.{IfOk}
 use Rattle.psos_calls.specs.declared.level.Level.{Level}
 use Rattle.psos_calls.specs.Levels.Calls.{LevelCall}
 use Rattle.psos_calls.specs.Plan.Trace.{calls_in}
-use Rattle.psos_calls.proofs.TraceSteps.{calls_of, calls-same}
+use Rattle.psos_calls.proofs.TraceSteps.{steps-calls}
 use Rattle.psos_calls.proofs.trace.Trace.calls.Goals as goal
 
-pub steps-init : goal.steps-init
-steps-init c =
-    let made = c.as_slice-made-items.result.now in
-    ap (λ (front : List (Level × LevelCall)). front ++ calls_of made) c.in_ok-calls.ensures
-    ∙ ap calls_of c.as_slice-made-items.ensures.value
-    ∙ sym (calls-same c.self.inside.pages c.self.inside.made.items)
-    ∙ ap calls_in c.self.view_is
+pub returns : goal.returns
+returns c =
+    let same = sym (steps-calls c.self.inside.calls c.self.inside.answers c.self.invariant.answered) ∙ ap calls_in c.self.view_is in
+    subst (λ (calls : List (Level × LevelCall)). IfOk c.steps.result (λ s. s ≡ calls)) same c.steps.ensures
