@@ -2,18 +2,20 @@
 //!
 //! Scripts stand on standard input, each behind a line `== NAME`. For each, this line is printed, the transcript that
 //! the plain program gives, or the number of its lines where they are many, and whether the core gives the same.
-//! Behind them it prints what the reader says of scripts at the limits of the language, and lines and transcripts of
-//! entries that no script has to give.
+//! Behind them it prints what the reader says of scripts at the limits of the language, lines and transcripts of
+//! entries that no script has to give, and where the capabilities of a run come from.
 #![tactic(auto)]
 
 mod limits;
 mod lines;
+mod origins;
 mod parts;
 mod runs;
 mod transcripts;
 
 use limits::put_limits;
 use lines::put_lines;
+use origins::put_origins;
 use parts::next_part;
 use psos_io::{NoStore, StdSink, StdSource, put_all, read_all};
 use psos_script::read_script;
@@ -78,6 +80,7 @@ fn all(alloc: Global, bytes: &[u8]) -> Result<Vec<u8>, AllocError> {
     put_limits(alloc, &mut out)?;
     put_lines(alloc, &mut out)?;
     put_transcripts(alloc, &mut out)?;
+    put_origins(alloc, &mut out)?;
     Ok(out)
 }
 

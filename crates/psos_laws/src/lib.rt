@@ -14,8 +14,6 @@ mod origins;
 mod places;
 mod sound;
 mod starts;
-#[cfg(test)]
-mod tests;
 mod watched;
 mod way;
 
