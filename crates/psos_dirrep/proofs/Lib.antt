@@ -1,6 +1,5 @@
 pub mod SlotSearch
 pub mod NameBytes
-pub mod NameHalves
 pub mod PageSearch
 pub mod Slots
 pub mod SlotChanges

@@ -127,12 +127,11 @@ filled-none h l not_filled = by (is_filled_name (name_from h l)) refl
 pub filled-named : (n : Name) → is_filled_name n ≡ true → is_name (name_text n) ≡ true
 filled-named n e = (and_parts (is_name (name_text n)) (bytes_eq n.bytes (padded 16 (name_text n))) e).0
 
--- and then its text makes it
-pub filled-of : (n : Name) → is_filled_name n ≡ true → name_of (name_text n) ≡ n
-filled-of n e =
+-- and then it is a name
+pub filled-is_name : (n : Name) → is_filled_name n ≡ true → IsName n
+filled-is_name n e =
     let parts = and_parts (is_name (name_text n)) (bytes_eq n.bytes (padded 16 (name_text n))) e in
-    let same = (bytes_eq-Decides n.bytes (padded 16 (name_text n))).0 parts.1 in
-    ap (λ (b : List ℕ). (let x : Name = record { bytes = b } in x)) (sym same)
+    record { named = parts.0; filled = (bytes_eq-Decides n.bytes (padded 16 (name_text n))).0 parts.1 }
 
 -- reading a name
 pub read-err : (text : List ℕ) (fault : TextFault) → ◌≡◌ {A = Result Name TextFault} (cond (is_name text) (Ok (name_of text)) (Err faults.Name)) (Err fault) → is_name text ≡ true → ⊥

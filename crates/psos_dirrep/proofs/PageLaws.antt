@@ -1,6 +1,7 @@
 -- The pages of a directory, up to one with a slot that was never used, are the whole of it.
-use Rattle.std.proofs.Common.{◌≡◌, ℕ, zero, suc, ◌+◌, ◌*◌, ◌-◌, ◌<◌, ◌≤◌, Bool, true, false, cond, ◌||◌, eqb, List, [], ◌∷◌, ◌++◌, length, length-append, take, drop, slice_get, Option, Some, None, refl, sym, ap, subst, ◌∙◌, arith}
+use Rattle.std.proofs.Common.{◌≡◌, ℕ, zero, suc, ◌+◌, ◌*◌, ◌-◌, ◌<◌, ◌≤◌, Bool, true, false, cond, List, [], ◌∷◌, ◌++◌, length, length-append, take, drop, slice_get, Option, Some, None, refl, sym, ap, subst, ◌∙◌, arith}
 use Rattle.std.specs.Prelude.{option_map, nat_lt}
+use Rattle.std.specs.List.{list_any}
 use Rattle.std.specs.Option.{unwrap_or, option_and_then}
 use Rattle.std.proofs.lemmas.Bool.{true≢false}
 use Rattle.std.proofs.lemmas.Bool.Decides.{nat_tests}
@@ -11,15 +12,15 @@ use Rattle.psos_text.specs.declared.name.Name.{Name}
 use Rattle.psos_words.specs.declared.word.Word.{Word}
 use Rattle.psos_words.specs.declared.word.Word.TheVariants.{Data, Cap}
 use Rattle.psos_words.specs.Words.{zeros}
-use Rattle.psos_words.specs.Directory.{Slot, Found, mark_of, slots_of, are_never, are_in_order, entry_slots, decode, has_never, find, find_from, slot_for, free_from}
+use Rattle.psos_words.specs.Directory.{Slot, Never, Gone, Used, Found, mark_of, slots_of, are_never, are_in_order, entry_slots, decode, has_never, find, find_from, slot_for, free_from}
 use Rattle.psos_dirrep.specs.Changes.{IsWhole}
-use Rattle.psos_dirrep.specs.Pages.{words_of, slots_in, AreSlots, ArePages, or_else, moved, find_on, slot_on, entry_slot}
-use Rattle.psos_dirrep.specs.Scan.{scan_free}
+use Rattle.psos_dirrep.specs.Pages.{words_of, slots_in, AreSlots, ArePages, or_else, moved, find_on, slot_on, entry_slot, was_never}
 use Rattle.psos_dirrep.proofs.SlotChanges.{FreeAt, never, gone, used, free-at}
 use Rattle.psos_dirrep.proofs.Directories.{decoded, decode-whole}
-use Rattle.psos_dirrep.proofs.SlotSearch.{never-find, scan-free}
+use Rattle.psos_dirrep.proofs.SlotSearch.{never-find}
 use Rattle.psos_dirrep.proofs.PageSlots.{halves, zeros-never, never-zeros, never-append, order-front, order-back, find-append, free-append, find-moved, free-moved}
 use Rattle.psos_dirrep.proofs.EntryChanges.{find-take}
+use Rattle.psos_dirrep.proofs.NeverUsedSlots.{never-slots}
 use Rattle.psos_dirrep.proofs.Slots.{by_slot, slots-split}
 
 -- ---- after a slot that was never used
@@ -163,21 +164,11 @@ record HasPlace (o : Option ℕ) : Type 0 where
   place : ℕ
   is : o ≡ Some place
 
-never-place : (k : ℕ) (words : List Word) → has_never words ≡ true → HasPlace (scan_free k words)
+never-place : (k : ℕ) (slots : List Slot) → list_any was_never slots ≡ true → HasPlace (free_from k slots)
 never-place k [] has = absurd (true≢false (sym has))
-never-place k (Data m ∷ []) has = absurd (true≢false (sym has))
-never-place k (Cap x ∷ []) has = absurd (true≢false (sym has))
-never-place k (Data m ∷ b ∷ []) has = absurd (true≢false (sym has))
-never-place k (Cap x ∷ b ∷ []) has = absurd (true≢false (sym has))
-never-place k (Data m ∷ b ∷ c ∷ []) has = absurd (true≢false (sym has))
-never-place k (Cap x ∷ b ∷ c ∷ []) has = absurd (true≢false (sym has))
-never-place k (Cap x ∷ b ∷ c ∷ d ∷ rest) has = never-place (k + 1) rest has
-never-place k (Data m ∷ b ∷ c ∷ d ∷ rest) has = by (eqb m 0) (eqb m 3) (never-place (k + 1) rest) has
-  where
-    by : (t u : Bool) → (has_never rest ≡ true → HasPlace (scan_free (k + 1) rest)) → cond t true (has_never rest) ≡ true → HasPlace (cond (t || u) (Some k) (scan_free (k + 1) rest))
-    by true u later has = record { place = k; is = refl }
-    by false true later has = record { place = k; is = refl }
-    by false false later has = later has
+never-place k (Never ∷ rest) has = record { place = k; is = refl }
+never-place k (Gone ∷ rest) has = record { place = k; is = refl }
+never-place k (Used x ∷ rest) has = never-place (k + 1) rest has
 
 pub pages-free : (k : ℕ) (pages : List (List Word)) (front : List Slot) → ArePages pages → slots_of (words_of pages) ≡ Some front → free_from k front ≡ slot_on k pages
 unfolding slots_of
@@ -218,7 +209,7 @@ free-taken m all h = by (nat_lt m MOST_ENTRIES) refl
 pub pages-places : (pages : List (List Word)) (slots : List Slot) → ArePages pages → length pages ≤ 8 → decode (words_of pages) ≡ Some slots → has_never (words_of pages) ≡ true → slot_for slots ≡ entry_slot (slot_on 0 pages)
 pages-places pages slots are few e has =
     let f = pages-fronts pages slots are few e in
-    let p = never-place 0 (words_of pages) has in
-    let here : free_from 0 f.front ≡ Some p.place = sym (scan-free 0 (words_of pages) f.front f.are) ∙ p.is in
+    let p = never-place 0 f.front (sym (never-slots (words_of pages) f.front f.are) ∙ has) in
+    let here : free_from 0 f.front ≡ Some p.place = p.is in
     let all : free_from 0 f.all ≡ Some (0 + p.place) = ap (free_from 0) f.both ∙ free-append 0 f.front f.back ∙ ap (λ (o : Option ℕ). or_else o (free_from (0 + length f.front) f.back)) here ∙ ap (λ (i : ℕ). Some i) {x = p.place} {y = 0 + p.place} (omega arith) in
     ap (free_from 0) f.is ∙ free-taken p.place f.all (free-at 0 p.place f.all all) ∙ ap entry_slot (sym here ∙ pages-free 0 pages f.front are f.are)

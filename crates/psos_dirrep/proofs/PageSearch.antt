@@ -5,7 +5,7 @@ use Rattle.psos_words.specs.declared.word.Word.{Word}
 use Rattle.psos_words.specs.declared.word.Word.TheVariants.{Data, Cap}
 use Rattle.psos_words.specs.Words.{word_at}
 use Rattle.psos_words.specs.Directory.{has_never}
-use Rattle.psos_dirrep.specs.Scan.{looked, scanned, scan, is_free, is_never, scan_free}
+use Rattle.psos_dirrep.specs.Scan.{has_halves, entry_at, scan, holds_none, is_never, scan_free}
 
 -- a search has come to slot k of a page
 pub record HasCome {X : Type 0} (k : ℕ) (page : List Word) (whole rest : X) : Type 0 where
@@ -37,14 +37,14 @@ past words long k end = drop_all (4 * k) words (omega arith)
     drop_all (suc n) (x ∷ l) h = drop_all n l (omega arith)
 
 pub scan-step : (words : List Word) (k high low : ℕ) → length words ≡ 64 → k < 16
-    → scan k high low (drop (4 * k) words) ≡ scanned k (looked high low (word_at words (4 * k)) (word_at words (4 * k + 1)) (word_at words (4 * k + 2)) (word_at words (4 * k + 3))) (scan (k + 1) high low (drop (4 * (k + 1)) words))
+    → scan k high low (drop (4 * k) words) ≡ cond (has_halves high low (word_at words (4 * k + 1)) (word_at words (4 * k + 2))) (entry_at k (word_at words (4 * k)) (word_at words (4 * k + 3))) (scan (k + 1) high low (drop (4 * (k + 1)) words))
 scan-step words k high low long within = ap (scan k high low) (four words k (omega arith))
 
 pub scan-end : (words : List Word) (k high low : ℕ) → length words ≡ 64 → 16 ≤ k → scan k high low (drop (4 * k) words) ≡ None
 scan-end words k high low long end = ap (scan k high low) (past words long k end)
 
 pub free-step : (words : List Word) (k : ℕ) → length words ≡ 64 → k < 16
-    → scan_free k (drop (4 * k) words) ≡ cond (is_free (word_at words (4 * k))) (Some k) (scan_free (k + 1) (drop (4 * (k + 1)) words))
+    → scan_free k (drop (4 * k) words) ≡ cond (holds_none (word_at words (4 * k + 3))) (Some k) (scan_free (k + 1) (drop (4 * (k + 1)) words))
 free-step words k long within = ap (scan_free k) (four words k (omega arith))
 
 pub free-end : (words : List Word) (k : ℕ) → length words ≡ 64 → 16 ≤ k → scan_free k (drop (4 * k) words) ≡ None

@@ -1,21 +1,10 @@
 // One slot, as a search sees it.
-ghost use Rattle.std.specs.Prelude.{◌≡◌, ◌+◌, ◌*◌, ◌<◌, length};
+ghost use Rattle.std.specs.Prelude.{◌≡◌, ◌+◌, ◌*◌, ◌<◌, length, IfSome};
 ghost use Rattle.psos_words.specs.Words.{word_at};
-ghost use Rattle.psos_dirrep.specs.Scan.{looked, looked_at};
+ghost use Rattle.psos_dirrep.specs.Scan.{entry_at, has_halves, holds_none};
 
-use psos_caps::Cap;
+use crate::Found;
 use psos_words::{Page, Word};
-
-// What a slot tells a search for a name.
-#[derive(Clone, Copy)]
-pub(crate) enum Look {
-    // It was never used, so no slot after it is used.
-    Stop,
-    // It is not this name's.
-    Pass,
-    // It is the name's entry.
-    Here { cap: Cap, kept: bool },
-}
 
 // Word i of a page.
 pub(crate) fn word(page: &Page, i: u8) -> Word
@@ -26,42 +15,48 @@ pub(crate) fn word(page: &Page, i: u8) -> Word
     page.get(i)
 }
 
-// Looks at slot k of a page for the name with these two numbers.
-pub(crate) fn look_in(page: &Page, k: u8, high: u64, low: u64) -> Look
+// Whether the name in slot k of a page has these two numbers. Most names differ in the first.
+pub(crate) fn has_halves(page: &Page, k: u8, high: u64, low: u64) -> bool
     requires { k < 16 }
     ensures all { length page.now ≡ 64 }
-    ensures look { result ≡ looked high low (word_at page.now (4 * k)) (word_at page.now (4 * k + 1)) (word_at page.now (4 * k + 2)) (word_at page.now (4 * k + 3)) }
-{
-    match word(page, 4 * k) {
-        Word::Data(mark) => {
-            if mark == 0 {
-                Look::Stop
-            } else {
-                look_at(page, k, mark, high, low)
-            }
-        }
-        Word::Cap(_) => Look::Pass,
-    }
-}
-
-fn look_at(page: &Page, k: u8, mark: u64, high: u64, low: u64) -> Look
-    requires { k < 16 }
-    ensures { result ≡ looked_at mark high low (word_at page.now (4 * k + 1)) (word_at page.now (4 * k + 2)) (word_at page.now (4 * k + 3)) }
+    ensures halves { result ≡ has_halves high low (word_at page.now (4 * k + 1)) (word_at page.now (4 * k + 2)) }
 {
     let Word::Data(h) = word(page, 4 * k + 1) else {
-        return Look::Pass;
+        return false;
     };
-    let Word::Data(l) = word(page, 4 * k + 2) else {
-        return Look::Pass;
-    };
-    if h != high || l != low {
-        return Look::Pass;
+    if h != high {
+        return false;
     }
+    let Word::Data(l) = word(page, 4 * k + 2) else {
+        return false;
+    };
+    l == low
+}
+
+// The entry in slot k of a page, if it holds one.
+pub(crate) fn entry_at(page: &Page, k: u8) -> Option<Found>
+    requires { k < 16 }
+    ensures entry { result ≡ entry_at k (word_at page.now (4 * k)) (word_at page.now (4 * k + 3)) }
+    ensures small { IfSome result (λ found. found.slot < 16) }
+{
+    let (Word::Data(mark), Word::Cap(cap)) = (word(page, 4 * k), word(page, 4 * k + 3)) else {
+        return None;
+    };
+    Some(Found {
+        slot: k,
+        cap,
+        kept: mark == 2,
+    })
+}
+
+// Whether slot k of a page holds no entry.
+pub(crate) fn holds_none(page: &Page, k: u8) -> bool
+    requires { k < 16 }
+    ensures all { length page.now ≡ 64 }
+    ensures none { result ≡ holds_none (word_at page.now (4 * k + 3)) }
+{
     match word(page, 4 * k + 3) {
-        Word::Cap(cap) => Look::Here {
-            cap,
-            kept: mark == 2,
-        },
-        Word::Data(_) => Look::Pass,
+        Word::Data(_) => true,
+        Word::Cap(_) => false,
     }
 }

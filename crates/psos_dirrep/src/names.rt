@@ -14,10 +14,7 @@ pub fn name_from(high: u64, low: u64) -> Name
     requires { IsTrue (is_filled_name (name_from high low)) }
     ensures { result ≡ name_from high low }
 {
-    match read(high, low) {
-        Ok(name) => name,
-        Err(_) => unreachable!(),
-    }
+    Name::from_bytes(sixteen(high, low))
 }
 
 // The name with these two numbers, if it is one that is filled up with zeros.

@@ -4,11 +4,11 @@ ghost use Rattle.psos_text.specs.Name.{IsName};
 ghost use Rattle.psos_words.specs.Directory.{has_never, find, slot_for};
 ghost use Rattle.psos_dirrep.specs.Entries.{as_found};
 ghost use Rattle.psos_dirrep.specs.Pages.{moved, slots_in, AreSlots};
-ghost use Rattle.psos_dirrep.specs.Scan.{scan, scan_free, is_free, is_never};
+ghost use Rattle.psos_dirrep.specs.Scan.{scan, scan_free, is_never};
 
 use crate::Found;
 use crate::halves::halves;
-use crate::look::{Look, look_in, word};
+use crate::look::{entry_at, has_halves, holds_none, word};
 use psos_text::Name;
 use psos_words::{Page, Word};
 
@@ -26,7 +26,7 @@ pub fn has_never(page: &Page) -> bool
 }
 
 /// The entry of a name on one page of a directory, which begins with entry slot `base`. None exactly where no entry on
-/// the page has the name. It stops at the first slot that was never used.
+/// the page has the name. It compares the name's first eight bytes, and the others only where these are the same.
 pub fn find_on(page: &Page, base: u8, name: &Name) -> Option<Found>
     requires named { IsName name.now }
     requires within { base ≤ 240 }
@@ -58,27 +58,25 @@ pub fn free_on(page: &Page, base: u8) -> Option<u8>
 }
 
 // The entry of the name with these two numbers.
-pub(crate) fn scan(page: &Page, high: u64, low: u64) -> Option<Found>
+fn scan(page: &Page, high: u64, low: u64) -> Option<Found>
     ensures found { result ≡ scan 0 high low page.now }
     ensures small { IfSome result (λ found. found.slot < 16) }
 {
     'slots: for k in 0..16u8 {
-        match look_in(page, k, high, low) {
-            Look::Stop => return None,
-            Look::Pass => {}
-            Look::Here { cap, kept } => return Some(Found { slot: k, cap, kept }),
+        if has_halves(page, k, high, low) {
+            return entry_at(page, k);
         }
     }
     None
 }
 
-// The least slot whose first word says that it is not used.
-pub(crate) fn scan_free(page: &Page) -> Option<u8>
+// The least slot that holds no entry.
+fn scan_free(page: &Page) -> Option<u8>
     ensures place { result ≡ scan_free 0 page.now }
     ensures small { IfSome result (λ k. k < 16) }
 {
     'slots: for k in 0..16u8 {
-        if is_free(word(page, 4 * k)) {
+        if holds_none(page, k) {
             return Some(k);
         }
     }
@@ -91,16 +89,6 @@ pub(crate) fn is_never(first: Word) -> bool
 {
     match first {
         Word::Data(mark) => mark == 0,
-        Word::Cap(_) => false,
-    }
-}
-
-// Whether this first word is that of a slot that is not used.
-fn is_free(first: Word) -> bool
-    ensures { result ≡ is_free first }
-{
-    match first {
-        Word::Data(mark) => mark == 0 || mark == 3,
         Word::Cap(_) => false,
     }
 }

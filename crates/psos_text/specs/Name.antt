@@ -15,6 +15,10 @@ is_name text = nat_le 1 (length text) && nat_le (length text) 16 && list_all is_
 abbrev pub name_text : Name → List ℕ
 name_text n = before_first (λ b. b == 0) n.bytes
 
+-- the value with these bytes
+abbrev pub with_bytes : List ℕ → Name
+with_bytes bytes = record { bytes = bytes }
+
 -- a text with zeros behind it, n bytes in all
 abbrev pub padded : ℕ → List ℕ → List ℕ
 padded n text = text ++ replicate (n - length text) 0

@@ -1,7 +1,7 @@
 // Names.
 ghost use Rattle.std.specs.Prelude.{◌≡◌, ◌≤◌, if◌then◌else◌, [], length, IsTrue, IfOk};
 ghost use Rattle.std.specs.List.{list_all};
-ghost use Rattle.psos_text.specs.Name.{is_name as named, is_name_byte as byte_named, name_of, name_text, IsName};
+ghost use Rattle.psos_text.specs.Name.{is_name as named, is_name_byte as byte_named, name_of, name_text, with_bytes, IsName};
 
 use crate::fault::TextFault;
 use crate::finds::first_at;
@@ -32,6 +32,21 @@ impl Name {
     {
         let (text, _) = self.bytes.split_at(first_at(0, &self.bytes));
         text
+    }
+
+    /// Its sixteen bytes: its text, and zeros behind it.
+    pub fn to_bytes(self) -> [u8; 16]
+        ensures { result ≡ self.bytes }
+    {
+        self.bytes
+    }
+
+    /// The name whose sixteen bytes these are: a text, and zeros behind it.
+    pub fn from_bytes(bytes: [u8; 16]) -> Name
+        requires { IsName (with_bytes bytes) }
+        ensures { result ≡ with_bytes bytes }
+    {
+        Name { bytes }
     }
 }
 

@@ -1,15 +1,24 @@
-use Rattle.std.proofs.Common.{◌*◌, ◌+◌, drop, sym, ap, ◌∙◌, arith}
-use Rattle.psos_dirrep.specs.declared.look.Look.{Look}
-use Rattle.psos_dirrep.specs.Scan.{scanned, scan}
+use Rattle.std.proofs.Common.{◌*◌, ◌+◌, Bool, cond, drop, sym, ap, ◌∙◌, arith}
+use Rattle.psos_words.specs.Words.{word_at}
+use Rattle.psos_dirrep.specs.Scan.{entry_at, scan}
 use Rattle.psos_dirrep.proofs.PageSearch.{scan-step}
 use Rattle.psos_dirrep.proofs.page.scan.Goals as goal
+
+pub returns-then-has_halves-clause-found : goal.returns-then-has_halves-clause-found
+returns-then-has_halves-clause-found c =
+    let page = c.args.page.now in
+    let k = c.slots.k in
+    let is = sym c.has_halves.ensures.halves ∙ c.if-has_halves.true in
+    c.entry_at.ensures.entry ∙ sym (c.slots.invariant.same ∙ scan-step page k c.args.high c.args.low c.has_halves.ensures.all (omega arith)
+    ∙ ap (λ (b : Bool). cond b (entry_at k (word_at page (4 * k)) (word_at page (4 * k + 3))) (scan (k + 1) c.args.high c.args.low (drop (4 * (k + 1)) page))) is)
 
 pub slots-preserved : goal.slots-preserved
 slots-preserved c =
     let page = c.args.page.now in
     let k = c.slots.k in
-    let is = sym c.look_in.ensures.look ∙ c.in-Pass.is in
+    let is = sym c.has_halves.ensures.halves ∙ c.if-has_halves.false in
     record {
-      same = c.slots.invariant.same ∙ scan-step page k c.args.high c.args.low c.look_in.ensures.all (omega arith) ∙ ap (λ (l : Look). scanned k l (scan (k + 1) c.args.high c.args.low (drop (4 * (k + 1)) page))) is;
-      long = λ _. c.look_in.ensures.all;
+      same = c.slots.invariant.same ∙ scan-step page k c.args.high c.args.low c.has_halves.ensures.all (omega arith)
+          ∙ ap (λ (b : Bool). cond b (entry_at k (word_at page (4 * k)) (word_at page (4 * k + 3))) (scan (k + 1) c.args.high c.args.low (drop (4 * (k + 1)) page))) is;
+      long = λ _. c.has_halves.ensures.all;
     }
