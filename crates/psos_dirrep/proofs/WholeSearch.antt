@@ -7,9 +7,11 @@ use Rattle.std.proofs.lemmas.Option.{same_Some, none-some}
 use Rattle.psos_limits.specs.declared.TheConstants.{MOST_ENTRIES}
 use Rattle.psos_text.specs.declared.name.Name.{Name}
 use Rattle.psos_words.specs.declared.word.Word.{Word}
+use Rattle.psos_words.specs.declared.word.Word.TheVariants.{Data, Cap}
 use Rattle.psos_words.specs.Directory.{Slot, Never, Gone, Used, Found as SlotFound, slots_of, are_never, are_in_order, are_apart, find, slot_for, free_from}
 use Rattle.psos_dirrep.specs.declared.found.Found.{Found}
 use Rattle.psos_dirrep.specs.Entries.{as_found}
+use Rattle.psos_dirrep.specs.Scan.{entry_at}
 use Rattle.psos_dirrep.specs.EntryLists.{entry_list, IsEntryList}
 use Rattle.psos_dirrep.specs.Pages.{words_of, AreSlots, or_else, moved, find_on, slot_on, entry_slot, behind}
 use Rattle.psos_dirrep.proofs.SlotChanges.{free-at}
@@ -30,10 +32,13 @@ pub list-find : (pages : List (List Word)) (name : Name) → IsEntryList pages �
 list-find pages name e = sym (pages-names pages (entry_list (words_of pages)) name e.are e.few e.list)
 
 -- what is found on a page is found in the directory by its first slot
-pub found-moved : (here : Option SlotFound) (base : ℕ) (found : Found) → option_map as_found here ≡ Some found
-    → ◌≡◌ {A = Option Found} (Some (record { slot = base + found.slot; cap = found.cap; kept = found.kept })) (option_map as_found (option_map (moved base) here))
-found-moved None base found e = absurd (none-some found e)
-found-moved (Some f) base found e = ap (λ (x : Found). (let y : Found = record { slot = base + x.slot; cap = x.cap; kept = x.kept } in Some y)) (sym (same_Some (as_found f) found e))
+pub entry-moved : (here : Option SlotFound) (base k : ℕ) (a d : Word) → option_map as_found here ≡ entry_at k a d → entry_at (base + k) a d ≡ option_map as_found (option_map (moved base) here)
+entry-moved None base k (Data m) (Cap x) e = absurd (none-some _ e)
+entry-moved None base k (Data m) (Data n) e = refl
+entry-moved None base k (Cap y) d e = refl
+entry-moved (Some f) base k (Data m) (Data n) e = absurd (none-some (as_found f) (sym e))
+entry-moved (Some f) base k (Cap y) d e = absurd (none-some (as_found f) (sym e))
+entry-moved (Some f) base k (Data m) (Cap x) e = ap (λ (found : Found). (let moved_on : Found = record { slot = base + found.slot; cap = found.cap; kept = found.kept } in Some moved_on)) (sym (same_Some (as_found f) _ e))
 
 pub none-moved : (here : Option SlotFound) (base : ℕ) → option_map as_found here ≡ None → ◌≡◌ {A = Option Found} None (option_map as_found (option_map (moved base) here))
 none-moved None base e = refl

@@ -1,5 +1,5 @@
 // One slot, as a search sees it.
-ghost use Rattle.std.specs.Prelude.{◌≡◌, ◌+◌, ◌*◌, ◌<◌, length, IfSome};
+ghost use Rattle.std.specs.Prelude.{◌≡◌, ◌+◌, ◌*◌, ◌<◌, ◌≤◌, length, IfSome};
 ghost use Rattle.psos_words.specs.Words.{word_at};
 ghost use Rattle.psos_dirrep.specs.Scan.{entry_at, has_halves, holds_none};
 
@@ -33,17 +33,21 @@ pub(crate) fn has_halves(page: &Page, k: u8, high: u64, low: u64) -> bool
     l == low
 }
 
-// The entry in slot k of a page, if it holds one.
-pub(crate) fn entry_at(page: &Page, k: u8) -> Option<Found>
-    requires { k < 16 }
-    ensures entry { result ≡ entry_at k (word_at page.now (4 * k)) (word_at page.now (4 * k + 3)) }
-    ensures small { IfSome result (λ found. found.slot < 16) }
+// The entry in slot k of a page that begins with entry slot `base`, if it holds one.
+pub(crate) fn entry_on(page: &Page, base: u8, k: u8) -> Option<Found>
+    requires within { k < 16 }
+    requires base { base ≤ 240 }
+    ensures entry { result ≡ entry_at (base + k) (word_at page.now (4 * k)) (word_at page.now (4 * k + 3)) }
+    ensures near { IfSome result (λ found. found.slot < base + 16) }
 {
-    let (Word::Data(mark), Word::Cap(cap)) = (word(page, 4 * k), word(page, 4 * k + 3)) else {
+    let Word::Data(mark) = word(page, 4 * k) else {
+        return None;
+    };
+    let Word::Cap(cap) = word(page, 4 * k + 3) else {
         return None;
     };
     Some(Found {
-        slot: k,
+        slot: base + k,
         cap,
         kept: mark == 2,
     })

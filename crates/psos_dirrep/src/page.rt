@@ -1,14 +1,15 @@
 // One page of a directory.
-ghost use Rattle.std.specs.Prelude.{◌≡◌, ◌+◌, ◌<◌, ◌≤◌, option_map, IfSome};
+ghost use Rattle.std.specs.Prelude.{◌≡◌, ◌+◌, ◌*◌, ◌<◌, ◌≤◌, None, option_map, IfNone, IfSome};
 ghost use Rattle.psos_text.specs.Name.{IsName};
+ghost use Rattle.psos_words.specs.Words.{word_at};
 ghost use Rattle.psos_words.specs.Directory.{has_never, find, slot_for};
 ghost use Rattle.psos_dirrep.specs.Entries.{as_found};
 ghost use Rattle.psos_dirrep.specs.Pages.{moved, slots_in, AreSlots};
-ghost use Rattle.psos_dirrep.specs.Scan.{scan, scan_free, is_never};
+ghost use Rattle.psos_dirrep.specs.Scan.{entry_at, scan, scan_free, is_never};
 
 use crate::Found;
 use crate::halves::halves;
-use crate::look::{entry_at, has_halves, holds_none, word};
+use crate::look::{entry_on, has_halves, holds_none, word};
 use psos_text::Name;
 use psos_words::{Page, Word};
 
@@ -34,14 +35,10 @@ pub fn find_on(page: &Page, base: u8, name: &Name) -> Option<Found>
     ensures near { IfSome result (λ found. found.slot < base + 16) }
 {
     let (high, low) = halves(name);
-    match scan(page, high, low) {
-        Some(found) => Some(Found {
-            slot: base + found.slot,
-            cap: found.cap,
-            kept: found.kept,
-        }),
-        None => None,
-    }
+    let Some(k) = named_slot(page, high, low) else {
+        return None;
+    };
+    entry_on(page, base, k)
 }
 
 /// The least slot that is not used on one page of a directory, which begins with entry slot `base`. None exactly where
@@ -57,14 +54,15 @@ pub fn free_on(page: &Page, base: u8) -> Option<u8>
     }
 }
 
-// The entry of the name with these two numbers.
-fn scan(page: &Page, high: u64, low: u64) -> Option<Found>
-    ensures found { result ≡ scan 0 high low page.now }
-    ensures small { IfSome result (λ found. found.slot < 16) }
+// The slot of the name with these two numbers.
+fn named_slot(page: &Page, high: u64, low: u64) -> Option<u8>
+    ensures none { IfNone result (scan 0 high low page.now ≡ None) }
+    ensures some { IfSome result (λ k. scan 0 high low page.now ≡ entry_at k (word_at page.now (4 * k)) (word_at page.now (4 * k + 3))) }
+    ensures small { IfSome result (λ k. k < 16) }
 {
     'slots: for k in 0..16u8 {
         if has_halves(page, k, high, low) {
-            return entry_at(page, k);
+            return Some(k);
         }
     }
     None

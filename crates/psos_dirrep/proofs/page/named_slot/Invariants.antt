@@ -1,7 +1,7 @@
 use Rattle.std.proofs.Common.{◌*◌, drop}
 use Rattle.psos_dirrep.specs.Scan.{scan}
 use Rattle.psos_dirrep.proofs.PageSearch.{HasCome}
-use Rattle.psos_dirrep.proofs.page.scan.Given as goal
+use Rattle.psos_dirrep.proofs.page.named_slot.Given as goal
 
 -- what is left to search tells what the whole page tells
 abbrev pub invariant-slots : goal.invariant-slots
