@@ -8,7 +8,7 @@ use Rattle.std.proofs.lemmas.Option.{none-some, same_Some}
 use Rattle.psos_limits.specs.declared.TheConstants.{SLOTS}
 use Rattle.psos_words.specs.declared.word.Word.{Word}
 use Rattle.psos_words.specs.Words.{zeros}
-use Rattle.psos_pages.specs.PagePlaces.{read_at, all_read, given, ArePlaced}
+use Rattle.psos_pages.specs.PagePlaces.{read_at, all_read, given, ArePlaced, IsLonger}
 use Rattle.psos_pages.proofs.ReadWords.{same-or, default}
 use Rattle.psos_pages.proofs.AllWords.{words-same}
 
@@ -51,16 +51,41 @@ slot-zero (row ∷ shown) zero k = default 8 k 0
 slot-zero (row ∷ shown) (suc s) k = slot-zero shown s k
 
 -- at first all are read at place 0
-pub placed-first : ArePlaced (replicate SLOTS (replicate 8 0)) (replicate (SLOTS * 8) None) (zeros 64 ∷ [])
+pub placed-first : ArePlaced (replicate SLOTS (replicate 8 0)) [] (zeros 64 ∷ [])
 placed-first = record {
   slots = let row : List ℕ = replicate 8 0 in length-replicate SLOTS row;
-  numbers = let none : Option ℕ = None in length-replicate (SLOTS * 8) none;
+  numbers = omega arith;
   zero = refl;
   read = λ s k b. absurd (omega (arith, b, all-zero SLOTS s k));
-  within = λ p at f. absurd (not-none (get_or (replicate (SLOTS * 8) None) p None) at (default (SLOTS * 8) p None) f);
-  apart = λ p q at f g. absurd (not-none (get_or (replicate (SLOTS * 8) None) p None) at (default (SLOTS * 8) p None) f);
-  few = omega (arith, given-none (SLOTS * 8));
+  within = λ p at f. absurd (none-some at f);
+  apart = λ p q at f g. absurd (none-some at f);
+  few = omega (arith, given-none 0);
 }
+
+-- ---- a list of own places that reaches further
+
+-- so far it has the same own places, and its room
+pub record HasReached (before now : List (Option ℕ)) (room_before room_now : ℕ) : Type 0 where
+  pub longer : IsLonger before now
+  pub few : length now ≤ SLOTS * 8
+  pub room : room_now ≡ room_before
+
+pub longer-first : (own : List (Option ℕ)) → IsLonger own own
+longer-first own = record { same = λ p. refl; given = refl }
+
+-- one more, which is none
+pub longer-more : (before own : List (Option ℕ)) → IsLonger before own → IsLonger before (own ++ None ∷ [])
+longer-more before own longer = record { same = λ p. as_before own p ∙ longer.same p; given = as_many own ∙ longer.given }
+  where
+    as_before : (own : List (Option ℕ)) (p : ℕ) → get_or (own ++ None ∷ []) p None ≡ get_or own p None
+    as_before [] zero = refl
+    as_before [] (suc p) = refl
+    as_before (x ∷ own) zero = refl
+    as_before (x ∷ own) (suc p) = as_before own p
+
+    as_many : (own : List (Option ℕ)) → sum_by given (own ++ None ∷ []) ≡ sum_by given own
+    as_many [] = omega (arith, sum_by-cons given None [], given-none 0)
+    as_many (x ∷ own) = omega (arith, sum_by-cons given x (own ++ None ∷ []), sum_by-cons given x own, as_many own)
 
 module _ {shown : List (List ℕ)} {own : List (Option ℕ)} {pages : List (List Word)} (placed : ArePlaced shown own pages) where
   -- no two pages are read at one place other than 0
@@ -86,8 +111,8 @@ module _ {shown : List (List ℕ)} {own : List (Option ℕ)} {pages : List (List
   row-here s row h e = e ∙ get_or_default shown s row [] (omega (arith, h, placed.slots))
 
   -- the own place of a page, as it is found
-  pub own-here : (p : ℕ) (x : Option ℕ) → p / 8 < SLOTS → x ≡ get_or own p x → get_or own p None ≡ x
-  own-here p x h e = get_or_default own p None x (omega (arith, h, placed.numbers)) ∙ sym e
+  pub own-here : (p : ℕ) (x : Option ℕ) → p < length own → x ≡ get_or own p x → get_or own p None ≡ x
+  own-here p x h e = get_or_default own p None x h ∙ sym e
 
   -- none is read at the own place of one that is read at place 0
   unread : (p at : ℕ) → get_or own p None ≡ Some at → read_at shown (p / 8) (p % 8) ≡ 0 → (s k : ℕ) → read_at shown s k ≢ at
@@ -108,8 +133,20 @@ module _ {shown : List (List ℕ)} {own : List (Option ℕ)} {pages : List (List
   words-more these = words-same shown (pages ++ these ∷ []) pages (λ s k. get_or_append_left pages (these ∷ []) [] (read_at shown s k) (read-within s k))
 
   -- there is room for a page that was never written
-  pub few-places : (p : ℕ) → p < SLOTS * 8 → get_or own p None ≡ None → length pages ≤ SLOTS * 8
-  few-places p h e = omega (arith, placed.few, placed.numbers, given-fewer own p (omega (arith, h, placed.numbers)) e)
+  pub few-places : (p : ℕ) → p < length own → get_or own p None ≡ None → length pages ≤ SLOTS * 8
+  few-places p h e = omega (arith, placed.few, placed.numbers, given-fewer own p h e)
+
+  -- the list of own places reaches further
+  pub placed-longer : (more : List (Option ℕ)) → IsLonger own more → length more ≤ SLOTS * 8 → ArePlaced shown more pages
+  placed-longer more longer few = record {
+    slots = placed.slots;
+    numbers = few;
+    zero = placed.zero;
+    read = λ s k b. (let r = placed.read s k b in (r.0, longer.same (s * 8 + k) ∙ r.1));
+    within = λ p at f. placed.within p at (sym (longer.same p) ∙ f);
+    apart = λ p q at f g. placed.apart p q at (sym (longer.same p) ∙ f) (sym (longer.same q) ∙ g);
+    few = omega (arith, placed.few, longer.given);
+  }
 
   -- all pages of a slot are read at place 0
   pub placed-clear : (s : ℕ) → ArePlaced (set shown s (replicate 8 0)) own pages
@@ -182,23 +219,23 @@ module _ {shown : List (List ℕ)} {own : List (Option ℕ)} {pages : List (List
   }
 
   -- a page is given the next place
-  pub placed-more : (p : ℕ) (these : List Word) → p < SLOTS * 8 → get_or own p None ≡ None
+  pub placed-more : (p : ℕ) (these : List Word) → p < length own → get_or own p None ≡ None
       → ArePlaced shown (set own p (Some (length pages))) (pages ++ these ∷ [])
   placed-more p these h e = record {
     slots = placed.slots;
-    numbers = length-set own p (Some (length pages)) ∙ placed.numbers;
+    numbers = omega (arith, length-set own p (Some (length pages)), placed.numbers);
     zero = get_or_append_left pages (these ∷ []) [] 0 (omega (arith, placed.few)) ∙ placed.zero;
     read = λ s k b.
         let r = placed.read s k b in
         (r.0, get_or-set_other own p (s * 8 + k) (Some (length pages)) None (λ f. not-none (get_or own p None) (read_at shown s k) e (ap (λ i. get_or own i None) (sym f) ∙ r.1)) ∙ r.1);
     within = λ q at f. by_number q at f (same-or q p);
     apart = λ q r at f g. by_numbers q r at f g (same-or q p) (same-or r p);
-    few = omega (arith, placed.few, placed.numbers, given-more own p (length pages) (omega (arith, h, placed.numbers)) e, length-append pages (these ∷ []));
+    few = omega (arith, placed.few, placed.numbers, given-more own p (length pages) h e, length-append pages (these ∷ []));
   }
     where
       -- its own place is the new one, and no other's
       new-place : (at : ℕ) → get_or (set own p (Some (length pages))) p None ≡ Some at → at ≡ length pages
-      new-place at f = same_Some at (length pages) (sym f ∙ get_or-set_same own p (Some (length pages)) None (omega (arith, h, placed.numbers)))
+      new-place at f = same_Some at (length pages) (sym f ∙ get_or-set_same own p (Some (length pages)) None h)
 
       old-place : (q at : ℕ) → q ≢ p → get_or (set own p (Some (length pages))) q None ≡ Some at → get_or own q None ≡ Some at
       old-place q at n f = sym (get_or-set_other own p q (Some (length pages)) None n) ∙ f

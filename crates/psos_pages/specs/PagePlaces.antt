@@ -1,5 +1,5 @@
 -- Where the pages of all slots lie, and the words that they are read as. States docs/levels.md, "Pages and slots".
-use Rattle.std.specs.Prelude.{◌≡◌, ◌<◌, ◌+◌, ◌*◌, ◌/◌, ◌%◌, ℕ, suc, List, [], Option, Some, None, length, map, slice_index_or}
+use Rattle.std.specs.Prelude.{◌≡◌, ◌<◌, ◌≤◌, ◌+◌, ◌*◌, ◌/◌, ◌%◌, ℕ, suc, List, [], Option, Some, None, length, map, slice_index_or}
 use Rattle.std.specs.List.{range_with_len, sum_by}
 use Rattle.psos_limits.specs.declared.TheConstants.{MOST_WORDS, SLOTS}
 use Rattle.psos_words.specs.declared.word.Word.{Word}
@@ -26,10 +26,16 @@ abbrev pub given : Option ℕ → ℕ
 given None = 0
 given (Some at) = 1
 
--- Each page is read at place 0, where all words are data 0, or at its own place, which no other page has.
+-- the same own places, in a list that may reach further
+pub record IsLonger (before now : List (Option ℕ)) : Type 0 where
+  pub same : (p : ℕ) → slice_index_or now p None ≡ slice_index_or before p None
+  pub given : sum_by given now ≡ sum_by given before
+
+-- Each page is read at place 0, where all words are data 0, or at its own place, which no other page has. Pages that the
+-- list of own places does not reach have none.
 pub record ArePlaced (shown : List (List ℕ)) (own : List (Option ℕ)) (pages : List (List Word)) : Type 0 where
   pub slots : length shown ≡ SLOTS
-  pub numbers : length own ≡ SLOTS * 8
+  pub numbers : length own ≤ SLOTS * 8
   pub zero : slice_index_or pages 0 [] ≡ zeros 64
   pub read : (s k : ℕ) → 0 < read_at shown s k → (k < 8) × (slice_index_or own (s * 8 + k) None ≡ Some (read_at shown s k))
   pub within : (p at : ℕ) → slice_index_or own p None ≡ Some at → (0 < at) × (at < length pages)

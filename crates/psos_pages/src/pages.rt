@@ -26,7 +26,7 @@ pub struct Pages<B: Store> {
 }
 
 impl<B: Store> Model for Pages<B> {
-    ghost use Rattle.std.specs.Prelude.{◌≡◌, ◌<◌, ◌*◌, length, vec_capacity};
+    ghost use Rattle.std.specs.Prelude.{◌≡◌, ◌≤◌, ◌<◌, ◌*◌, length, vec_capacity};
     ghost use Rattle.psos_limits.specs.declared.TheConstants.{SLOTS};
     ghost use Rattle.psos_pages.specs.State.{PagesState};
     ghost use Rattle.psos_pages.specs.SlotViews.{slots_of};
@@ -36,7 +36,7 @@ impl<B: Store> Model for Pages<B> {
 
     ghost view = { λ p. record { slots = slots_of p.taken (all_read p.places.shown.items p.places.pages.items); store = p.store } };
 
-    ghost invariant = { λ p. (length p.taken ≡ SLOTS) × (SLOTS * 8 < vec_capacity p.places.pages) × ArePlaced p.places.shown.items p.places.own.items p.places.pages.items };
+    ghost invariant = { λ p. (length p.taken ≡ SLOTS) × (SLOTS * 8 < vec_capacity p.places.pages) × ArePlaced p.places.shown.items p.places.own.items p.places.pages.items × (SLOTS * 8 ≤ vec_capacity p.places.own) };
 }
 
 impl<B: Store> Pages<B> {
