@@ -51,7 +51,7 @@ pub free-end : (words : List Word) (k : ℕ) → length words ≡ 64 → 16 ≤ 
 free-end words k long end = ap (scan_free k) (past words long k end)
 
 -- whether a slot was never used is told by its first word
-never-cons : (a b c d : Word) (rest : List Word) → has_never (a ∷ b ∷ c ∷ d ∷ rest) ≡ cond (is_never a) true (has_never rest)
+pub never-cons : (a b c d : Word) (rest : List Word) → has_never (a ∷ b ∷ c ∷ d ∷ rest) ≡ cond (is_never a) true (has_never rest)
 never-cons (Data n) b c d rest = refl
 never-cons (Cap x) b c d rest = refl
 

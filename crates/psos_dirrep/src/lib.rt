@@ -25,5 +25,5 @@ pub use laws::{
     pages_are_the_whole,
 };
 pub use names::name_from;
-pub use page::{find_on, free_on, has_never};
+pub use page::{ends_never, find_on, free_on, has_never};
 pub use slot_words::{entry_words, gone_words};

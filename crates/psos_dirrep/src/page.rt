@@ -26,6 +26,15 @@ pub fn has_never(page: &Page) -> bool
     false
 }
 
+/// Whether the last slot of a page was never used. On a page of a directory it was exactly where some slot was, since
+/// nothing used comes after a slot that was never used: one look tells as much as `has_never`.
+pub fn ends_never(page: &Page) -> bool
+    ensures last { result ≡ is_never (word_at page.now 60) }
+    ensures directory { AreSlots page.now → result ≡ has_never page.now }
+{
+    is_never(word(page, 60))
+}
+
 /// The entry of a name on one page of a directory, which begins with entry slot `base`. None exactly where no entry on
 /// the page has the name. It compares the name's first eight bytes, and the others only where these are the same.
 pub fn find_on(page: &Page, base: u8, name: &Name) -> Option<Found>
