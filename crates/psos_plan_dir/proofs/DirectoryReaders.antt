@@ -8,8 +8,8 @@ use Rattle.psos_table.specs.Table.{at}
 use Rattle.psos_caps.specs.Capability.{Capability}
 use Rattle.psos_caps.specs.declared.cap.Uid.{Uid}
 use Rattle.psos_caps.specs.declared.rights.Rights.{Rights}
-use Rattle.psos_words.specs.Directory.{Slot as EntrySlot}
-use Rattle.psos_dirrep.specs.Pages.{words_of}
+use Rattle.psos_words.specs.Directory.{Slot as EntrySlot, slots_of}
+use Rattle.psos_dirrep.specs.Pages.{words_of, AreSlots}
 use Rattle.psos_dirrep.specs.EntryLists.{entry_list}
 use Rattle.psos_calls.specs.declared.kind.Kind.TheVariants.{Directory}
 use Rattle.psos_calls.specs.declared.level.Level.TheVariants.{L7}
@@ -31,13 +31,17 @@ use Rattle.psos_calls.specs.Language.Capabilities.{uid}
 use Rattle.psos_calls.specs.Plan.Parts.{Opened, read_pages, read_rep, read_dir}
 use Rattle.psos_calls.specs.Plan.Trace.{IsTraceOf}
 use Rattle.psos_calls.specs.Plan.Asked.{pages_first}
-use Rattle.psos_plan_dir.specs.Pages.{pages_in, is_more, IsOpen, opened_by}
+use Rattle.psos_plan_dir.specs.Pages.{pages_in, last_page, is_more, IsOpen, opened_by}
 use Rattle.psos_plan_dir.specs.Reads.{open_with, IsCapFront, IsDirFront, IsRepFront, IsSlotFront, IsNext, GoesOn, IsRead}
 use Rattle.psos_plan_dir.proofs.Representations.{HoldsList, holds}
 use Rattle.psos_plan_dir.proofs.PlanSteps.{ask-on, front-on}
-use Rattle.psos_plan_dir.proofs.PageWalk.{AllRead, NoneFirst, Walked, over, more, Over, walk, split-read, pages-count}
+use Rattle.psos_plan_dir.proofs.PageWalk.{AllRead, NoneFirst, Walked, over, more, Over, walk, last-slots, split-read, pages-count}
 
 -- ---- pages
+
+none-slots : AreSlots []
+unfolding slots_of
+none-slots = record { slots = refl; in_order = refl }
 
 module _ (slot : ℕ) (trace pages rest : List Step) (f : IsSlotFront slot trace) (front : pages ≡ take (pages_first trace) trace) (back : rest ≡ drop (pages_first trace) trace) where
   held : HoldsList f.levels.pages slot
@@ -54,6 +58,13 @@ module _ (slot : ℕ) (trace pages rest : List Step) (f : IsSlotFront slot trace
       let reads = split-read trace in
       walk f.levels slot held f.front.go f.front.apart 8 0 [] [] pages rest refl refl refl
       (subst AllRead (sym front) reads.0) (subst NoneFirst (sym back) reads.1) (subst (λ (t : List Step). IsTraceOf (read_pages 8 slot 0 [] f.front.go) f.levels t) (sym both) f.front.front)
+
+  -- the last page is one of a directory
+  pub slot-last : AreSlots (last_page [] pages)
+  slot-last =
+      let reads = split-read trace in
+      last-slots f.levels slot held f.front.go f.front.apart 8 0 [] [] pages rest refl refl none-slots
+      (subst AllRead (sym front) reads.0) (subst (λ (t : List Step). IsTraceOf (read_pages 8 slot 0 [] f.front.go) f.levels t) (sym both) f.front.front)
 
   pub slot-few : is_more 8 [] pages rest ≡ true → length pages < 8
   slot-few is = by walked

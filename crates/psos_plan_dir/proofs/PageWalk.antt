@@ -7,7 +7,7 @@ use Rattle.std.proofs.lemmas.Bool.Decides.{nat_tests}
 use Rattle.std.proofs.lemmas.Option.{same_Some, none-some, slice_get-get_or}
 use Rattle.psos_words.specs.declared.word.Word.{Word}
 use Rattle.psos_words.specs.Directory.{Slot, decode, has_never}
-use Rattle.psos_dirrep.specs.Pages.{words_of, ArePages}
+use Rattle.psos_dirrep.specs.Pages.{words_of, ArePages, AreSlots}
 use Rattle.psos_calls.specs.declared.step.Step.{Step}
 use Rattle.psos_calls.specs.declared.level.Level.TheVariants.{L7}
 use Rattle.psos_calls.specs.declared.next.Next.TheVariants.{Call}
@@ -26,7 +26,7 @@ use Rattle.psos_calls.specs.Plan.Trace.{followed, next_of, IsTraceOf}
 use Rattle.psos_calls.specs.Plan.Asked.{pages_first}
 use Rattle.psos_plan_dir.specs.Pages.{page_in, pages_in, last_page, is_more, IsWhole}
 use Rattle.psos_plan_dir.specs.Reads.{Reader, IsNoPage, GoesOn}
-use Rattle.psos_plan_dir.proofs.Representations.{HoldsList, Before, page-long, front-is, front-never, front-decodes, all-pages, list-never}
+use Rattle.psos_plan_dir.proofs.Representations.{HoldsList, Before, page-long, front-is, front-never, front-decodes, all-pages, list-never, page-slots}
 use Rattle.psos_plan_dir.proofs.PlanSteps.{goes-then, ask-on}
 
 -- ---- calls that read pages
@@ -214,6 +214,35 @@ module _ (l : Levels) (slot : ℕ) (h : HoldsList l.pages slot) (go : Opened →
           → IsTraceOf (cond b (opened slot (words ++ page) go) (read_pages n slot (k + 1) (words ++ page) go)) l (pages ++ rest) → Walked (suc n) slot k words other (p ∷ pages) rest h.entry_slots
       by true seen on later = ended pages reads.1 later seen
       by false seen on later = step (on (ap (λ (a : LevelAnswer). has_never (page_in a)) at ∙ seen) later) seen
+
+  -- the last page that was read is one of a directory
+  pub last-slots : (n k : ℕ) (words other : List Word) (pages rest : List Step) → n + k ≡ 8 → words ≡ Before l.pages slot k → AreSlots other → AllRead pages
+      → IsTraceOf (read_pages n slot k words go) l (pages ++ rest) → AreSlots (last_page other pages)
+  last-slots zero k words other [] rest all e are reads trace = are
+  last-slots (suc n) k words other [] rest all e are reads trace = are
+  last-slots zero k words other (p ∷ pages) rest all e are reads trace =
+      let is = all-pages l.pages slot h k (omega (arith, all)) words e in
+      absurd (after_whole words (ap decode is ∙ h.list) p (pages ++ rest) trace reads.0)
+  last-slots (suc n) k words other (p ∷ pages) rest all e are reads trace =
+      by (has_never page) refl (λ later. last-slots n (k + 1) (words ++ page) (page_in p.answer) pages rest (omega (arith, all)) (front-is l.pages slot h k small words e) this reads.1 later) trace.1
+    where
+      page : List Word
+      page = page_words l.pages (8 * slot + k)
+
+      small : k < 8
+      small = omega (arith, all)
+
+      this : AreSlots (page_in p.answer)
+      this = subst AreSlots (sym (ap page_in (ap (λ (s : Step). s.answer) trace.0))) (page-slots l.pages slot h k small)
+
+      ended : (ps : List Step) → AllRead ps → IsTraceOf (opened slot (words ++ page) go) l (ps ++ rest) → has_never page ≡ true → AreSlots (last_page (page_in p.answer) ps)
+      ended [] rs later seen = this
+      ended (q ∷ ps) rs later seen = absurd (after_whole (words ++ page) (front-decodes l.pages slot h k small words e seen) q (ps ++ rest) later rs.0)
+
+      by : (b : Bool) → has_never page ≡ b → (IsTraceOf (read_pages n slot (k + 1) (words ++ page) go) l (pages ++ rest) → AreSlots (last_page (page_in p.answer) pages))
+          → IsTraceOf (cond b (opened slot (words ++ page) go) (read_pages n slot (k + 1) (words ++ page) go)) l (pages ++ rest) → AreSlots (last_page (page_in p.answer) pages)
+      by true seen on later = ended pages reads.1 later seen
+      by false seen on later = on later
 
 -- the last of some calls
 pub last-is : (other : List Word) (pages : List Step) (s : Step) → slice_get pages (length pages - 1) ≡ Some s → last_page other pages ≡ page_in s.answer

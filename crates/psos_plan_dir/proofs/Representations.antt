@@ -1,8 +1,9 @@
 -- The pages of a directory's representation at level 7.
 use Rattle.std.proofs.Common.{◌≡◌, ℕ, zero, suc, ◌+◌, ◌*◌, ◌/◌, ◌<◌, Bool, true, false, ◌||◌, List, [], ◌∷◌, ◌++◌, length, length-drop, take, drop, Option, Some, None, refl, sym, subst, ap, ◌∙◌, arith}
-use Rattle.std.specs.Prelude.{slice_index_or}
+use Rattle.std.specs.Prelude.{slice_index_or, slice_get}
 use Rattle.std.specs.List.{list_any}
-use Rattle.std.proofs.Math.Seq.{take-add, take-length}
+use Rattle.std.proofs.Math.Seq.{take-add, take-length, drop-drop}
+use Rattle.std.proofs.Math.ListN.{drop_of_length-le}
 use Rattle.std.proofs.lemmas.Bool.{true≢false}
 use Rattle.std.proofs.lemmas.List.{take-append-drop, length-take-le}
 use Rattle.std.proofs.lemmas.Option.{none-some}
@@ -12,9 +13,9 @@ use Rattle.psos_caps.specs.declared.rights.Rights.{Rights}
 use Rattle.psos_words.specs.declared.word.Word.{Word}
 use Rattle.psos_words.specs.Directory.{Slot, Never, Gone, Used, are_never, decode, has_never}
 use Rattle.psos_dirrep.specs.Changes.{IsWhole}
-use Rattle.psos_dirrep.specs.Pages.{was_never}
+use Rattle.psos_dirrep.specs.Pages.{words_of, was_never, ArePages, AreSlots}
 use Rattle.psos_dirrep.proofs.Directories.{decoded}
-use Rattle.psos_dirrep.proofs.PageLaws.{front-whole}
+use Rattle.psos_dirrep.proofs.PageLaws.{front-whole, pages-slots}
 use Rattle.psos_dirrep.proofs.NeverUsedSlots.{never-parts, never-slots}
 use Rattle.psos_calls.specs.declared.obj_row.ObjRow.{ObjRow}
 use Rattle.psos_calls.specs.declared.seg_row.SegRow.{SegRow}
@@ -112,6 +113,44 @@ module _ (pages : Pages) (slot : ℕ) (h : HoldsList pages slot) where
       let long = h.long in
       let m : 64 * k ≡ length (slot_words pages slot) = omega arith in
       e ∙ ap (λ (n : ℕ). take n (slot_words pages slot)) m ∙ take-length (slot_words pages slot)
+
+  -- ---- each page is one of a directory
+
+  -- so many pages, from page k on
+  abbrev from : ℕ → ℕ → List (List Word)
+  from zero k = []
+  from (suc n) k = page_words pages (8 * slot + k) ∷ from n (k + 1)
+
+  from_words : (n k : ℕ) → n + k ≡ 8 → words_of (from n k) ≡ drop (64 * k) (slot_words pages slot)
+  from_words zero k all =
+      let long = h.long in
+      sym (drop_of_length-le (slot_words pages slot) {i = 64 * k} (omega arith))
+  from_words (suc n) k all =
+      let words = drop (64 * k) (slot_words pages slot) in
+      let next : drop (64 * (k + 1)) (slot_words pages slot) ≡ drop 64 words =
+          ap (λ (i : ℕ). drop i (slot_words pages slot)) {x = 64 * (k + 1)} {y = 64 * k + 64} (omega arith) ∙ sym (drop-drop 64 (64 * k) (slot_words pages slot)) in
+      ap (λ (page : List Word). page ++ words_of (from n (k + 1))) (page_is k (omega arith))
+      ∙ ap (λ (rest : List Word). take 64 words ++ rest) (from_words n (k + 1) (omega arith) ∙ next)
+      ∙ take-append-drop 64 words
+
+  from_pages : (n k : ℕ) → n + k ≡ 8 → ArePages (from n k)
+  from_pages zero k all = tt
+  from_pages (suc n) k all = (page-long k (omega arith), from_pages n (k + 1) (omega arith))
+
+  from_count : (n k : ℕ) → length (from n k) ≡ n
+  from_count zero k = refl
+  from_count (suc n) k = ap suc (from_count n (k + 1))
+
+  from_at : (n k i : ℕ) → i < n → slice_get (from n k) i ≡ Some (page_words pages (8 * slot + (k + i)))
+  from_at zero k i less = absurd (omega arith)
+  from_at (suc n) k zero less = ap (λ (p : ℕ). Some (page_words pages (8 * slot + p))) {x = k} {y = k + 0} (omega arith)
+  from_at (suc n) k (suc i) less = from_at n (k + 1) i (omega arith) ∙ ap (λ (p : ℕ). Some (page_words pages (8 * slot + p))) {x = (k + 1) + i} {y = k + suc i} (omega arith)
+
+  pub page-slots : (k : ℕ) → k < 8 → AreSlots (page_words pages (8 * slot + k))
+  page-slots k small =
+      let count = from_count 8 0 in
+      pages-slots (from 8 0) h.entry_slots k (page_words pages (8 * slot + k)) (from_pages 8 0 refl) (omega arith) (ap decode (from_words 8 0 refl) ∙ h.list)
+      (from_at 8 0 k small ∙ ap (λ (p : ℕ). Some (page_words pages (8 * slot + p))) {x = 0 + k} {y = k} (omega arith))
 
 -- ---- from a directory to its slot
 

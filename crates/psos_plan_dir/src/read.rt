@@ -1,6 +1,7 @@
 // A directory is read, after the answers so far.
 ghost use Rattle.std.specs.Prelude.{◌≡◌, []};
 ghost use Rattle.psos_words.specs.Directory.{has_never};
+ghost use Rattle.psos_dirrep.specs.Pages.{AreSlots};
 ghost use Rattle.psos_calls.specs.Plan.Parts.{read_dir as dir_read, read_pages as pages_read, read_rep as rep_read};
 ghost use Rattle.psos_plan_dir.specs.Pages.{is_more as more, last_page};
 ghost use Rattle.psos_plan_dir.specs.Reads.{open_with, IsCapFront, IsDirFront, IsRepFront, IsSlotFront, Reads};
@@ -9,7 +10,7 @@ use crate::{Open, Reading};
 use psos_calls::close::refuse;
 use psos_calls::{Level, LevelAnswer, LevelCall, Next, Refusal, Right, StepSlice};
 use psos_caps::{Cap, Uid};
-use psos_dirrep::has_never;
+use psos_dirrep::ends_never;
 
 /// Opens a directory by a capability with a right (docs/requests.md, "Plans"): `DirAt`, and what `read_dir` reads. Its
 /// guard is not looked at. The trace begins where `DirAt` is asked for.
@@ -74,18 +75,20 @@ fn read_pages<'a>(slot: u16, trace: StepSlice<'a>) -> Reading<'a>
 
 // Whether one more page is to be read.
 fn is_more(pages: &StepSlice<'_>, rest: &StepSlice<'_>) -> bool
+    requires { AreSlots (last_page [] pages.now) }
     ensures { result ≡ more 8 [] pages.now rest.now }
 {
-    rest.is_empty() && pages.len() < 8 && !ends_never(pages)
+    rest.is_empty() && pages.len() < 8 && !last_has_never(pages)
 }
 
-// Whether the last page has a slot that was never used.
-fn ends_never(pages: &StepSlice<'_>) -> bool
+// Whether the last page, which is one of a directory, has a slot that was never used.
+fn last_has_never(pages: &StepSlice<'_>) -> bool
+    requires { AreSlots (last_page [] pages.now) }
     ensures { result ≡ has_never (last_page [] pages.now) }
 {
     match pages.last() {
         Some(last) => match &last.answer {
-            LevelAnswer::Whole(page) => has_never(page.page()),
+            LevelAnswer::Whole(page) => ends_never(page.page()),
             _ => false,
         },
         None => false,

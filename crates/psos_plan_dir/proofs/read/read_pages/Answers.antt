@@ -1,5 +1,5 @@
 use Rattle.std.proofs.Common.{sym, ap, ◌∙◌, take, drop, arith}
-use Rattle.psos_plan_dir.proofs.DirectoryReaders.{slot-low, slot-few, slot-more, slot-open, slot-read}
+use Rattle.psos_plan_dir.proofs.DirectoryReaders.{slot-last, slot-low, slot-few, slot-more, slot-open, slot-read}
 use Rattle.psos_plan_dir.proofs.read.read_pages.Goals as goal
 
 pub returns-then-is_more : goal.returns-then-is_more
@@ -40,3 +40,10 @@ overflow_add-page c =
     let few = slot-few c.args.slot t c.split_at-pages.result.0 c.split_at-pages.result.1 c.requires front back (sym c.is_more.ensures ∙ c.if-is_more.true) in
     let len = c.len.ensures in
     omega arith
+
+pub is_more-requires : goal.is_more-requires
+is_more-requires c =
+    let t = c.args.trace in
+    let front = c.split_at-pages.ensures.front ∙ ap (λ n. take n t) c.pages_first.ensures.value in
+    let back = c.split_at-pages.ensures.rest ∙ ap (λ n. drop n t) c.pages_first.ensures.value in
+    slot-last c.args.slot t c.split_at-pages.result.0 c.split_at-pages.result.1 c.requires front back
