@@ -1,6 +1,6 @@
 //! Directories in the words of their representations: what is read, what is looked for, and what is written.
 //!
-//! Plans look page by page (`find_on`, `free_on`, `has_never`) and write slots (`entry_words`, `gone_words`). `decode`,
+//! Plans look page by page (`find_on`, `free_on`, `ends_never`) and write slots (`entry_words`, `gone_words`). `decode`,
 //! `Entries127`, `find` and `slot_for` are for readers of whole directories, which no plan is: the program
 //! `psos_samples` shows them.
 #![tactic(auto)]
@@ -25,5 +25,5 @@ pub use laws::{
     pages_are_the_whole,
 };
 pub use names::name_from;
-pub use page::{ends_never, find_on, free_on, has_never};
+pub use page::{ends_never, find_on, free_on};
 pub use slot_words::{entry_words, gone_words};

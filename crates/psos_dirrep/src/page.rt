@@ -13,21 +13,9 @@ use crate::look::{entry_on, has_halves, holds_none, word};
 use psos_text::Name;
 use psos_words::{Page, Word};
 
-/// Whether a page has a slot that was never used. No page after the first such page is to be read (docs/levels.md,
+/// Whether the last slot of a page was never used. On a page of a directory this is so exactly where the page has a slot
+/// that was never used, since nothing used comes after one; then no page after it is to be read (docs/levels.md,
 /// "Directories in words").
-pub fn has_never(page: &Page) -> bool
-    ensures { result ≡ has_never page.now }
-{
-    'slots: for k in 0..16u8 {
-        if is_never(word(page, 4 * k)) {
-            return true;
-        }
-    }
-    false
-}
-
-/// Whether the last slot of a page was never used. On a page of a directory it was exactly where some slot was, since
-/// nothing used comes after a slot that was never used: one look tells as much as `has_never`.
 pub fn ends_never(page: &Page) -> bool
     ensures last { result ≡ is_never (word_at page.now 60) }
     ensures directory { AreSlots page.now → result ≡ has_never page.now }

@@ -3,7 +3,7 @@ ghost use Rattle.psos_text.specs.Name.{IsName};
 
 use crate::lines::{put_answer, put_option, put_text};
 use psos_caps::{Cap, Issuer, Uid};
-use psos_dirrep::{Found, entry_words, find_on, free_on, gone_words, has_never};
+use psos_dirrep::{Found, ends_never, entry_words, find_on, free_on, gone_words};
 use psos_text::{Name, put_hex4, put_number};
 use psos_words::{Page, Word};
 use std::alloc::{AllocError, Global};
@@ -134,7 +134,7 @@ fn put_searches(
 {
     let cap = some_cap();
     let none = Page::zero();
-    put_answer(out, b"a slot was never used", has_never(&none))?;
+    put_answer(out, b"a slot was never used", ends_never(&none))?;
     put_free(alloc, out, free_on(&none, 0))?;
     put_found(
         alloc,
@@ -193,7 +193,7 @@ fn put_full(alloc: Global, out: &mut Vec<u8>) -> Result<(), AllocError> {
     'slots: for k in 0..16u8 {
         put_entry(&mut page, k, b"scratch", some_cap(), true);
     }
-    put_answer(out, b"a slot was never used", has_never(&page))?;
+    put_answer(out, b"a slot was never used", ends_never(&page))?;
     put_free(alloc, out, free_on(&page, 0))
 }
 
