@@ -76,7 +76,7 @@ has_called s c o u level call h slots x same found lent trace read joined = reco
 
 -- what users have under way then
 abbrev pub with_call : Ongoing → ℕ → List Step → Upcoming → Ongoing
-with_call o u trace then = record { held = o.held; traces = with_item o.traces u trace; nexts = with_item o.nexts u then; phase = o.phase }
+with_call o u trace then = record { held = o.held; traces = with_item o.traces u trace; nexts = with_item o.nexts u then; phases = o.phases }
 
 module _ (s : Script) (c : CoreState) (o : Ongoing) (u : ℕ) (level : Level) (call : LevelCall) (x : User) (trace read : List Step) (h : HasCalled s c o u level call x trace) (back : read ≡ get_or (set c.traces u trace) u read) where
   is_read : read ≡ trace

@@ -1,7 +1,8 @@
 -- What the code of a close has found. States docs/levels.md, "Locks".
-use Rattle.std.proofs.Common.{◌≡◌, ℕ, ◌+◌, ◌<◌, List, [], length, get_or, set, Some, ap, ◌∙◌, sym, subst}
+use Rattle.std.proofs.Common.{◌≡◌, ℕ, ◌+◌, ◌<◌, List, [], length, map, get_or, set, Option, Some, ap, ◌∙◌, sym, subst}
 use Rattle.std.specs.Prelude.{slice_get}
 use Rattle.std.specs.List.{refill}
+use Rattle.std.proofs.lemmas.List.{map-set}
 use Rattle.psos_calls.specs.declared.effect.Effect.{Effect}
 use Rattle.psos_calls.specs.declared.next.Next.{Next}
 use Rattle.psos_calls.specs.declared.next.Next.TheVariants as nexts
@@ -9,6 +10,7 @@ use Rattle.psos_calls.specs.declared.reply.Reply.{Reply}
 use Rattle.psos_calls.specs.declared.step.Step.{Step}
 use Rattle.psos_calls.specs.Language.Script.{Script}
 use Rattle.psos_calls.specs.Language.User.{User, CanSettle, after}
+use Rattle.psos_model.specs.Run.{phase_of}
 use Rattle.psos_model.specs.Events.{CoreState}
 use Rattle.psos_core.specs.declared.ongoing.Ongoing.{Ongoing}
 use Rattle.psos_core.specs.declared.upcoming.Upcoming.{Upcoming}
@@ -53,6 +55,15 @@ module _ (s : Script) (c : CoreState) (o : Ongoing) (u : ℕ) (reply : Reply) (e
 
     pub parts_then : refill (length c.users) c.users (set slots u left) ≡ set c.users u (after s x effect)
     parts_then = parts_are c.users slots u left (after s x effect) same left_is
+
+    -- and so is its phase
+    pub phases_then : (now : List User) (y : User) (phase : Option ℕ) (phases : List (Option ℕ)) → now ≡ refill (length c.users) c.users (set slots u left) → y ≡ get_or now u y → phase ≡ phase_of s y
+        → phases ≡ map (phase_of s) c.users → set phases u phase ≡ map (phase_of s) (set c.users u (after s x effect))
+    phases_then now y phase phases written there is all =
+        let reader : y ≡ after s x effect = read_back c.users u (after s x effect) y (below s c o u h.may) (there ∙ ap (λ (xs : List User). get_or xs u y) (written ∙ parts_then)) in
+        ap (set phases u) (is ∙ ap (phase_of s) reader)
+        ∙ (ap (λ (ps : List (Option ℕ)). set ps u (phase_of s (after s x effect))) all
+        ∙ sym (map-set (phase_of s) c.users u (after s x effect)))
 
     module _ (now : List User) (y : User) (trace read : List Step) (written : now ≡ refill (length c.users) c.users (set slots u left)) (there : y ≡ get_or now u y) (none : trace ≡ [])
         (back : read ≡ get_or (set c.traces u trace) u read) where

@@ -1,9 +1,9 @@
 -- What a user's event leaves, from the parts that it changed. States docs/levels.md, "Locks".
-use Rattle.std.proofs.Common.{◌≡◌, ℕ, ◌<◌, Bool, false, true, List, [], ◌∷◌, ◌++◌, length, get_or, set, Option, Some, refl, sym, ap, ◌∙◌, subst, inl, inr}
+use Rattle.std.proofs.Common.{◌≡◌, ℕ, ◌<◌, Bool, false, true, List, [], ◌∷◌, ◌++◌, length, map, get_or, set, Option, Some, refl, sym, ap, ◌∙◌, subst, inl, inr}
 use Rattle.std.specs.Prelude.{slice_get, slice_set, slice_index_or, IsTrue}
 use Rattle.std.specs.Option.{option_and_then}
 use Rattle.std.specs.List.{refill}
-use Rattle.std.proofs.lemmas.List.{take_at, length-set, set-get_or, get_or-set_same, get_or-set_other}
+use Rattle.std.proofs.lemmas.List.{take_at, length-map, length-set, set-get_or, get_or-set_same, get_or-set_other}
 use Rattle.psos_calls.specs.declared.level.Level.{Level}
 use Rattle.psos_calls.specs.Levels.Calls.{LevelCall}
 use Rattle.psos_calls.specs.declared.next.Next.{Next}
@@ -20,7 +20,7 @@ use Rattle.psos_calls.specs.Levels.{act}
 use Rattle.psos_calls.specs.Levels as machines
 use Rattle.psos_calls.specs.Locks.{lock_of}
 use Rattle.psos_calls.specs.Locks.Held.{is_held}
-use Rattle.psos_model.specs.Run.{current_phase}
+use Rattle.psos_model.specs.Run.{phase_of}
 use Rattle.psos_model.specs.Events.{CoreState, locks_of, trace_of, called, closed, core_step}
 use Rattle.psos_laws.proofs.UnchangedPlaces.{set_apart, set_here}
 use Rattle.psos_events.proofs.OpenTraces.{step_of}
@@ -101,7 +101,7 @@ closed_is {B} s l m o p entries more u x reply effect trace steps n k levels use
     ∙ ap (λ (es : List Entry). S (levels_of l) U (set o.held u []) (set o.traces.items u []) es) all)))
 
 module _ (s : Script) (c : CoreState) (o : Ongoing) (u : ℕ) (may : MayStep s c o u) where
-  planned : IsPlanned s c o.nexts.items o.phase
+  planned : IsPlanned s c o.nexts.items o.phases
   planned = may.planned
 
   pub below : u < length c.users
@@ -117,33 +117,37 @@ module _ (s : Script) (c : CoreState) (o : Ongoing) (u : ℕ) (may : MayStep s c
   pub placed : u < length o.nexts.items
   placed = subst (λ (n : ℕ). u < n) (sym planned.all) may.goes.user
 
+  -- and a phase
+  pub phased : u < length o.phases
+  phased = subst (λ (n : ℕ). u < n) (sym (ap length planned.phases-are ∙ (length-map c.users (phase_of s) ∙ planned.users))) may.goes.user
+
   -- what is kept goes with the state
-  goes_with : (e d : CoreState) (p : Ongoing) (all : List Upcoming) (phase : Option ℕ) → d ≡ e → p.nexts.items ≡ all → p.phase ≡ phase → IsPlanned s e all phase → IsPlanned s d p.nexts.items p.phase
-  goes_with e d p all phase same nexts now h =
-      let P : CoreState → Type 0 = λ z. IsPlanned s z p.nexts.items p.phase in
-      let N : List Upcoming → Type 0 = λ ns. IsPlanned s e ns p.phase in
-      let F : Option ℕ → Type 0 = λ q. IsPlanned s e all q in
+  goes_with : (e d : CoreState) (p : Ongoing) (all : List Upcoming) (phases : List (Option ℕ)) → d ≡ e → p.nexts.items ≡ all → p.phases ≡ phases → IsPlanned s e all phases → IsPlanned s d p.nexts.items p.phases
+  goes_with e d p all phases same nexts now h =
+      let P : CoreState → Type 0 = λ z. IsPlanned s z p.nexts.items p.phases in
+      let N : List Upcoming → Type 0 = λ ns. IsPlanned s e ns p.phases in
+      let F : List (Option ℕ) → Type 0 = λ q. IsPlanned s e all q in
       subst P (sym same) (subst N (sym nexts) (subst F (sym now) h))
 
   -- nothing has changed
-  pub stayed : (d : CoreState) (p : Ongoing) → d ≡ c → p.nexts.items ≡ o.nexts.items → p.phase ≡ o.phase → HasStopped s c u d p
-  stayed d p same nexts now = record { state = inl same; planned = goes_with c d p o.nexts.items o.phase same nexts now planned }
+  pub stayed : (d : CoreState) (p : Ongoing) → d ≡ c → p.nexts.items ≡ o.nexts.items → p.phases ≡ o.phases → HasStopped s c u d p
+  stayed d p same nexts now = record { state = inl same; planned = goes_with c d p o.nexts.items o.phases same nexts now planned }
 
   -- a lock was taken
   module _ (level : Level) (call : LevelCall) (asked : next_for s c u ≡ Some (nexts.Call level call)) where
     abbrev lock_taken : CoreState
     lock_taken = record c { held = slice_set c.held u (lock_of (length s.users) call ∷ locks_of c u) }
 
-    pub took : is_held (locks_of c u) (lock_of (length s.users) call) ≡ false → (d : CoreState) (p : Ongoing) → d ≡ lock_taken → p.nexts.items ≡ o.nexts.items → p.phase ≡ o.phase → HasStepped s c u d p
+    pub took : is_held (locks_of c u) (lock_of (length s.users) call) ≡ false → (d : CoreState) (p : Ongoing) → d ≡ lock_taken → p.nexts.items ≡ o.nexts.items → p.phases ≡ o.phases → HasStepped s c u d p
     took free d p same nexts now = record {
       state = same ∙ sym (step_take s c o u may level call asked free);
-      planned = goes_with lock_taken d p o.nexts.items o.phase same nexts now (record {
+      planned = goes_with lock_taken d p o.nexts.items o.phases same nexts now (record {
         users = planned.users;
         held = length-set c.held u (lock_of (length s.users) call ∷ locks_of c u) ∙ planned.held;
         traces = planned.traces;
         all = planned.all;
         each = planned.each;
-        now = planned.now;
+        phases-are = planned.phases-are;
       });
       known = subst AreKnown (sym nexts) may.known;
     }
@@ -171,14 +175,14 @@ module _ (s : Script) (c : CoreState) (o : Ongoing) (u : ℕ) (may : MayStep s c
       pub made_next : next_for s (core_step s c u) u ≡ next_after s x trace
       made_next = ap (λ (e : CoreState). next_for s e u) (step_call s c o u may level call asked mine) ∙ next_then
 
-      module _ (d : CoreState) (p : Ongoing) (then : Upcoming) (same : d ≡ call_made) (told : Tells then (next_after s x trace)) (written : p.nexts.items ≡ set o.nexts.items u then) (now : p.phase ≡ o.phase) where
-        made_planned : IsPlanned s d p.nexts.items p.phase
+      module _ (d : CoreState) (p : Ongoing) (then : Upcoming) (same : d ≡ call_made) (told : Tells then (next_after s x trace)) (written : p.nexts.items ≡ set o.nexts.items u then) (now : p.phases ≡ o.phases) where
+        made_planned : IsPlanned s d p.nexts.items p.phases
         made_planned =
-            goes_with call_made d p (set o.nexts.items u then) o.phase same written now
-            (planned_on s c call_made o.nexts.items o.phase u then planned.all (λ v apart. planned.each v) planned.users planned.held
+            goes_with call_made d p (set o.nexts.items u then) o.phases same written now
+            (planned_on s c call_made o.nexts.items o.phases u then planned.all (λ v apart. planned.each v) planned.users planned.held
             (length-set c.traces u (trace_of c u ++ step_of c.levels call ∷ []) ∙ planned.traces) placed
             (λ v apart. next_same s c call_made v refl (get_or-set_other c.traces u v (trace_of c u ++ step_of c.levels call ∷ []) [] apart))
-            (subst (Tells then) (sym next_then) told) planned.now)
+            (subst (Tells then) (sym next_then) told) planned.phases-are)
 
         made_state : d ≡ core_step s c u
         made_state = same ∙ sym (step_call s c o u may level call asked mine)
@@ -203,12 +207,12 @@ module _ (s : Script) (c : CoreState) (o : Ongoing) (u : ℕ) (may : MayStep s c
   -- the request was closed
   module _ (reply : Reply) (effect : Effect) (asked : next_for s c u ≡ Some (nexts.Close reply effect)) where
     -- or not yet: how it closes was taken from where it was kept
-    pub waits : (d : CoreState) (p : Ongoing) → d ≡ c → p.nexts.items ≡ set o.nexts.items u upcoming.Close → p.phase ≡ o.phase → HasStopped s c u d p
+    pub waits : (d : CoreState) (p : Ongoing) → d ≡ c → p.nexts.items ≡ set o.nexts.items u upcoming.Close → p.phases ≡ o.phases → HasStopped s c u d p
     waits d p same nexts now = record {
       state = inl same;
-      planned = goes_with c d p (set o.nexts.items u upcoming.Close) o.phase same nexts now
-          (planned_on s c c o.nexts.items o.phase u upcoming.Close planned.all (λ v apart. planned.each v) planned.users planned.held planned.traces placed (λ v apart. refl)
-          (tells_close (next_for s c u) (ap closes asked)) planned.now);
+      planned = goes_with c d p (set o.nexts.items u upcoming.Close) o.phases same nexts now
+          (planned_on s c c o.nexts.items o.phases u upcoming.Close planned.all (λ v apart. planned.each v) planned.users planned.held planned.traces placed (λ v apart. refl)
+          (tells_close (next_for s c u) (ap closes asked)) planned.phases-are);
     }
 
     module _ (x : User) (here : slice_get c.users u ≡ Some x) where
@@ -228,7 +232,7 @@ module _ (s : Script) (c : CoreState) (o : Ongoing) (u : ℕ) (may : MayStep s c
           subst (λ (t : List Step). CanPlan s (after s x effect) t) trace_then (subst P (step_close s c o u may reply effect asked x here) (plans_then s c o u may u (after s x effect)) user_then)
 
       pub shut : (d : CoreState) (p : Ongoing) (then : Upcoming) → d ≡ request_closed → Tells then (next_after s (after s x effect) []) → IsTrue (is_known then)
-          → p.nexts.items ≡ set (set o.nexts.items u upcoming.Close) u then → p.phase ≡ current_phase s request_closed.users → HasStepped s c u d p
+          → p.nexts.items ≡ set (set o.nexts.items u upcoming.Close) u then → p.phases ≡ map (phase_of s) request_closed.users → HasStepped s c u d p
       shut d p then same told known nexts now =
           let gone = set o.nexts.items u upcoming.Close in
           let still : u < length gone = subst (λ (n : ℕ). u < n) (sym (length-set o.nexts.items u upcoming.Close)) placed in
@@ -237,8 +241,8 @@ module _ (s : Script) (c : CoreState) (o : Ongoing) (u : ℕ) (may : MayStep s c
           ∙ ap (λ (t : List Step). next_after s (after s x effect) t) trace_then in
           record {
             state = same ∙ sym (step_close s c o u may reply effect asked x here);
-            planned = goes_with request_closed d p (set gone u then) (current_phase s request_closed.users) same nexts now
-                (planned_on s c request_closed gone (current_phase s request_closed.users) u then (length-set o.nexts.items u upcoming.Close ∙ planned.all)
+            planned = goes_with request_closed d p (set gone u then) (map (phase_of s) request_closed.users) same nexts now
+                (planned_on s c request_closed gone (map (phase_of s) request_closed.users) u then (length-set o.nexts.items u upcoming.Close ∙ planned.all)
                 (λ v apart. subst (λ (up : Upcoming). Tells up (next_for s c v)) (sym (get_or-set_other o.nexts.items u v upcoming.Close upcoming.Nothing apart)) (planned.each v))
                 (length-set c.users u (after s x effect) ∙ planned.users) (length-set c.held u [] ∙ planned.held) (length-set c.traces u [] ∙ planned.traces) still
                 (λ v apart. next_same s c request_closed v (set_apart c.users u v (after s x effect) apart) (get_or-set_other c.traces u v [] [] apart))

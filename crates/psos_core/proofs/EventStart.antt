@@ -1,10 +1,10 @@
 -- Where a run by events begins.
-use Rattle.std.proofs.Common.{◌≡◌, ℕ, zero, suc, ◌+◌, ◌<◌, ◌≤◌, List, [], ◌∷◌, ◌++◌, length, take, replicate, set, Option, Some, refl, sym, ap, ◌∙◌, ◌⊎◌, inl, inr, subst, arith}
+use Rattle.std.proofs.Common.{◌≡◌, ℕ, zero, suc, ◌+◌, ◌<◌, ◌≤◌, List, [], ◌∷◌, ◌++◌, length, map, take, replicate, set, Option, Some, None, refl, sym, ap, ◌∙◌, ◌⊎◌, inl, inr, subst, arith}
 use Rattle.std.specs.Prelude.{slice_get, slice_index_or, IsTrue}
 use Rattle.std.specs.Option.{option_and_then}
 use Rattle.std.proofs.lemmas.Bool.{cases_lt, cases_eq}
 use Rattle.std.proofs.lemmas.Grind.{common_steps}
-use Rattle.std.proofs.lemmas.List.{length-replicate, length-set, take_more_set, get_or-set_same, get_or-set_other}
+use Rattle.std.proofs.lemmas.List.{length-replicate, length-set, length-map, take_more, take_more_set, get_or-set_same, get_or-set_other}
 use Rattle.psos_calls.specs.declared.lock_id.LockId.{LockId}
 use Rattle.psos_calls.specs.declared.next.Next.{Next}
 use Rattle.psos_calls.specs.declared.step.Step.{Step}
@@ -12,10 +12,11 @@ use Rattle.psos_calls.specs.declared.entry.Entry.{Entry}
 use Rattle.psos_calls.specs.Language.Script.{Script}
 use Rattle.psos_calls.specs.Language.User.{User}
 use Rattle.psos_model.specs.Flat.{Flat}
-use Rattle.psos_model.specs.Run.{current_phase}
+use Rattle.psos_model.specs.Run.{phase_of}
 use Rattle.psos_model.specs.Events.{CoreState}
 use Rattle.psos_model.specs.Events.Serial.{IsCoreStart}
 use Rattle.psos_events.proofs.ReplayInvariant.{nothing_at}
+use Rattle.psos_core.proofs.EventStep.{phase_there}
 use Rattle.psos_core.specs.declared.levels.Levels.{Levels}
 use Rattle.psos_core.specs.declared.ongoing.Ongoing.{Ongoing}
 use Rattle.psos_core.specs.System.{levels_of, system_of}
@@ -41,8 +42,8 @@ first_led {B} s own l o entries f start same nothing held traces =
 -- where no request is open, what is kept goes with the state
 pub first_planned : {B : Type 0} (s : Script) (l : Levels B) (o : Ongoing) (entries : List Entry) → length l.privates.items ≡ length s.users
     → o.held ≡ replicate (length l.privates.items) [] → o.traces.items ≡ replicate (length l.privates.items) [] → AreFirst s l.privates.items o.nexts.items
-    → o.phase ≡ current_phase s l.privates.items → IsPlanned s (state_in l o entries) o.nexts.items o.phase
-first_planned {B} s l o entries all held traces first phase =
+    → o.phases ≡ map (phase_of s) l.privates.items → IsPlanned s (state_in l o entries) o.nexts.items o.phases
+first_planned {B} s l o entries all held traces first phases =
     let users = l.privates.items in
     let none : (u : ℕ) → slice_index_or o.traces.items u [] ≡ [] = λ u. ap (λ (ts : List (List Step)). slice_index_or ts u []) traces ∙ nothing_at (length users) u in
     record {
@@ -51,7 +52,7 @@ first_planned {B} s l o entries all held traces first phase =
       traces = ap (λ (steps : List (List Step)). length steps) traces ∙ (length-replicate (length users) [] ∙ all);
       all = first.all ∙ all;
       each = λ u. subst (λ (t : List Step). Tells (slice_index_or o.nexts.items u upcoming.Nothing) (option_and_then (λ (x : User). next_after s x t) (slice_get users u))) (sym (none u)) (first.each u);
-      now = phase;
+      phases-are = phases;
     }
 
 -- ---- one user after another
@@ -111,3 +112,14 @@ pub cleared_more : {X : Type 0} (xs ys : List (List X)) (n : ℕ) (x : List X) �
 cleared_more xs ys n x h below is none =
     let all : replicate n [] ++ [] ∷ [] ≡ replicate (n + 1) [] = grind (arith, common_steps) in
     ap (take (n + 1)) is ∙ (take_more_set xs n x below ∙ (ap (λ zs. zs ++ x ∷ []) h ∙ (ap (λ z. replicate n [] ++ z ∷ []) none ∙ all)))
+
+-- so many have their phases, and one more
+pub phases_more : (s : Script) (users : List User) (phases now : List (Option ℕ)) (n : ℕ) (x : User) (p : Option ℕ) → take n phases ≡ take n (map (phase_of s) users) → n < length phases → n < length users
+    → slice_get users n ≡ Some x → p ≡ phase_of s x → now ≡ set phases n p → take (n + 1) now ≡ take (n + 1) (map (phase_of s) users)
+phases_more s users phases now n x p h below user here phase is =
+    let all = map (phase_of s) users in
+    ap (take (n + 1)) is
+    ∙ (take_more_set phases n p below
+    ∙ (ap (λ (ps : List (Option ℕ)). ps ++ p ∷ []) h
+    ∙ (ap (λ (q : Option ℕ). take n all ++ q ∷ []) (phase ∙ sym (phase_there s users n x here))
+    ∙ sym (take_more all n None (omega (arith, user, length-map users (phase_of s)))))))

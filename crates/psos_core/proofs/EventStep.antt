@@ -1,5 +1,5 @@
 -- A user's event, by what its plan does next. States docs/levels.md, "Locks".
-use Rattle.std.proofs.Common.{◌≡◌, ℕ, ◌<◌, ◌&&◌, ◌||◌, not, Bool, true, false, cond, List, length, get_or, set, Option, Some, None, refl, sym, ap, ◌∙◌, subst}
+use Rattle.std.proofs.Common.{◌≡◌, ℕ, zero, suc, ◌<◌, ◌&&◌, ◌||◌, not, Bool, true, false, cond, List, [], ◌∷◌, length, map, get_or, set, Option, Some, None, refl, sym, ap, ◌∙◌, subst}
 use Rattle.std.specs.Prelude.{IsTrue, Result, Ok, Err, OnOk, OnErr, IfErr, IsErrAnd, slice_get, slice_index_or, option_map}
 use Rattle.std.specs.List.{list_all}
 use Rattle.std.specs.Option.{option_and_then}
@@ -23,7 +23,7 @@ use Rattle.psos_calls.specs.Plan.{Plan, Close, Ask}
 use Rattle.psos_calls.specs.Plan.Requests.{plan_of}
 use Rattle.psos_calls.specs.Plan.Trace.{followed, next_of}
 use Rattle.psos_calls.specs.Language.Tests.{if_there}
-use Rattle.psos_model.specs.Run.{is_open, is_now, phase_of, is_left, has_left, current_phase}
+use Rattle.psos_model.specs.Run.{is_open, is_now, earlier, phase_of, is_left, has_left, current_phase}
 use Rattle.psos_model.specs.Events.{CoreState, Event, locks_of, trace_of, plan_left, event_for, event_of, may_happen, is_enabled}
 use Rattle.psos_model.specs.Events as events
 use Rattle.psos_model.proofs.RequestsLeft.{fails}
@@ -32,6 +32,7 @@ use Rattle.psos_events.proofs.ReplayInvariant.{set_at}
 use Rattle.psos_core.specs.declared.upcoming.Upcoming.{Upcoming}
 use Rattle.psos_core.specs.declared.upcoming.Upcoming.TheVariants as upcoming
 use Rattle.psos_core.proofs.UserSlots.{found_there}
+use Rattle.psos_core.specs.Least.{least}
 use Rattle.psos_core.specs.Plans.{next_after, next_for, IsLeveled, call_in, closes, may_go, Tells, known_of, is_known, AreKnown, IsPlanned}
 
 -- ---- the event is the one that the plan tells
@@ -141,18 +142,18 @@ close_goes users held u (Some (nexts.Call level call)) h = absurd (true≢false 
 close_goes users held u (Some (nexts.Close reply effect)) h = refl
 
 -- user u's plan has gone on, and the others' are as they were
-pub planned_on : (s : Script) (c d : CoreState) (nexts : List Upcoming) (phase : Option ℕ) (u : ℕ) (then : Upcoming)
+pub planned_on : (s : Script) (c d : CoreState) (nexts : List Upcoming) (phases : List (Option ℕ)) (u : ℕ) (then : Upcoming)
     → length nexts ≡ length s.users → ((v : ℕ) → (v ≡ u → ⊥) → Tells (slice_index_or nexts v upcoming.Nothing) (next_for s c v))
     → length d.users ≡ length s.users → length d.held ≡ length s.users → length d.traces ≡ length s.users → u < length nexts
-    → ((v : ℕ) → (v ≡ u → ⊥) → next_for s d v ≡ next_for s c v) → Tells then (next_for s d u) → phase ≡ current_phase s d.users → IsPlanned s d (set nexts u then) phase
-planned_on s c d nexts phase u then all others users held traces below apart mine now = record {
+    → ((v : ℕ) → (v ≡ u → ⊥) → next_for s d v ≡ next_for s c v) → Tells then (next_for s d u) → phases ≡ map (phase_of s) d.users → IsPlanned s d (set nexts u then) phases
+planned_on s c d nexts phases u then all others users held traces below apart mine now = record {
   users = users;
   held = held;
   traces = traces;
   all = length-set nexts u then ∙ all;
   each = by_set (λ v up. Tells up (next_for s d v)) (set_at nexts u then upcoming.Nothing below) mine
       (λ v other. subst (Tells (slice_index_or nexts v upcoming.Nothing)) (sym (apart v other)) (others v other));
-  now = now;
+  phases-are = now;
 }
 
 -- and it is known
@@ -168,19 +169,28 @@ next_same s c d v user trace =
 
 -- ---- who has a request left
 
--- by the current phase that is kept
-pub left_is : (s : Script) (c : CoreState) (u : ℕ) (x : User) (phase : Option ℕ) (b : Bool) → slice_get c.users u ≡ Some x → phase ≡ current_phase s c.users
-    → b ≡ (is_open x.frames || is_now (phase_of s x) phase) → has_left s c.users u ≡ b
-left_is s c u x phase b here now is =
-    ap (λ (o : Option User). if_there o false (λ (z : User). is_left s c.users z)) here
-    ∙ (ap (λ (o : Option ℕ). is_open x.frames || is_now (phase_of s x) o) (sym now) ∙ sym is)
+-- the least of all users' phases is the current one
+pub least_is : (s : Script) (users : List User) → least (map (phase_of s) users) ≡ current_phase s users
+least_is s [] = refl
+least_is s (x ∷ others) = ap (earlier (phase_of s x)) (least_is s others)
 
--- and whether its event is enabled, by what is found in its place
-pub enabled_by : (s : Script) (c : CoreState) (u : ℕ) (slots : List User) (x : User) (phase : Option ℕ) (b : Bool) → slots ≡ c.users → x ≡ get_or slots u x → u < length c.users
-    → phase ≡ current_phase s c.users → b ≡ (is_open x.frames || is_now (phase_of s x) phase) → (d : Bool) → b ≡ d → is_enabled s c u ≡ (d && may_go (length s.users) c.held u (next_for s c u))
-enabled_by s c u slots x phase b same found below now is d test =
-    let left = left_is s c u x phase b (found_there slots c.users u x same found below) now is in
-    enabled_is s c u ∙ ap (λ (e : Bool). e && may_go (length s.users) c.held u (next_for s c u)) (left ∙ test)
+-- and each stands at its user's place
+pub phase_there : (s : Script) (users : List User) (u : ℕ) (x : User) → slice_get users u ≡ Some x → slice_index_or (map (phase_of s) users) u None ≡ phase_of s x
+phase_there s [] u x here = absurd (none-some x here)
+phase_there s (z ∷ zs) zero x here = ap (phase_of s) (same_Some z x here)
+phase_there s (z ∷ zs) (suc u) x here = phase_there s zs u x here
+
+-- by the phases that are kept, and what is found in the user's place
+pub left_is : (s : Script) (c : CoreState) (u : ℕ) (slots : List User) (x : User) (phases : List (Option ℕ)) (b : Bool) → slots ≡ c.users → x ≡ get_or slots u x → u < length c.users
+    → phases ≡ map (phase_of s) c.users → b ≡ (is_open x.frames || is_now (slice_index_or phases u None) (least phases)) → b ≡ has_left s c.users u
+left_is s c u slots x phases b same found below all is =
+    let here : slice_get c.users u ≡ Some x = found_there slots c.users u x same found below in
+    let G : Option ℕ → Option ℕ → Bool = λ p q. is_open x.frames || is_now p q in
+    is
+    ∙ (ap (λ (ps : List (Option ℕ)). G (slice_index_or ps u None) (least ps)) all
+    ∙ (ap (λ (p : Option ℕ). G p (least (map (phase_of s) c.users))) (phase_there s c.users u x here)
+    ∙ (ap (G (phase_of s x)) (least_is s c.users)
+    ∙ sym (ap (λ (o : Option User). if_there o false (λ (z : User). is_left s c.users z)) here))))
 
 -- nobody has
 pub none_is : (s : Script) (users slots : List User) (phase : Option ℕ) (b : Bool) → slots ≡ users → phase ≡ current_phase s users

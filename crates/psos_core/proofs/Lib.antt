@@ -11,6 +11,7 @@ pub mod BootTables
 pub mod EventStep
 pub mod EventRun
 pub mod TurnsRun
+pub mod AskedUsers
 pub mod EventStart
 pub mod EventParts
 pub mod CallFacts

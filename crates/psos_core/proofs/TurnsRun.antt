@@ -206,34 +206,6 @@ drawn_may s c h x u drawn =
       enabled = may;
     }
 
--- those of the users from one on that may go on
-pub enabled_from : (s : Script) (c : CoreState) (xs : List User) (u : ℕ) (x : User) → slice_get xs u ≡ Some x → x.number ≡ u
-    → enabled_in s c (drop u xs) ≡ cond (is_enabled s c u) (u ∷ enabled_in s c (drop (suc u) xs)) (enabled_in s c (drop (suc u) xs))
-enabled_from s c xs u x here number =
-    ap (enabled_in s c) (drop_at xs u here)
-    ∙ ap (λ (k : ℕ). cond (is_enabled s c k) (k ∷ enabled_in s c (drop (suc u) xs)) (enabled_in s c (drop (suc u) xs))) number
-  where
-    drop_at : (xs : List User) (k : ℕ) → slice_get xs k ≡ Some x → drop k xs ≡ x ∷ drop (suc k) xs
-    drop_at [] k e = absurd (none-some x e)
-    drop_at (z ∷ zs) zero e = ap (λ (w : User). w ∷ zs) (same_Some z x e)
-    drop_at (z ∷ zs) (suc k) e = drop_at zs k e
-
--- one user more was looked at
-pub found_more : (s : Script) (c : CoreState) (xs : List User) (found more all : List ℕ) (u : ℕ) (x : User) (b : Bool) → slice_get xs u ≡ Some x → x.number ≡ u → b ≡ is_enabled s c u
-    → more ≡ cond b (found ++ u ∷ []) found → found ++ enabled_in s c (drop u xs) ≡ all → more ++ enabled_in s c (drop (u + 1) xs) ≡ all
-found_more s c xs found more all u x b here number is grown h =
-    let rest = enabled_in s c (drop (suc u) xs) in
-    let next : suc u ≡ u + 1 = omega arith in
-    let P : ℕ → Type 0 = λ k. more ++ enabled_in s c (drop k xs) ≡ all in
-    subst P next (ap (λ (us : List ℕ). us ++ rest) grown
-    ∙ (by_test rest b
-    ∙ (ap (λ (t : Bool). found ++ cond t (u ∷ rest) rest) is
-    ∙ (ap (λ (us : List ℕ). found ++ us) (sym (enabled_from s c xs u x here number)) ∙ h))))
-  where
-    by_test : (rest : List ℕ) (t : Bool) → cond t (found ++ u ∷ []) found ++ rest ≡ found ++ cond t (u ∷ rest) rest
-    by_test rest true = append_assoc found (u ∷ []) rest
-    by_test rest false = refl
-
 -- whether there is anybody
 pub none_in : (us : List ℕ) → (length us == 0) ≡ true → us ≡ []
 none_in us none = by_list us (eqb-true (length us) 0 none)

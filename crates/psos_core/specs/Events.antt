@@ -1,5 +1,5 @@
 -- A run that goes by events. States docs/levels.md, "Locks".
-use Rattle.std.specs.Prelude.{◌≡◌, ◌⊎◌, ℕ, ◌<◌, List, length, IsTrue}
+use Rattle.std.specs.Prelude.{◌≡◌, ◌⊎◌, ℕ, ◌<◌, Bool, true, false, List, length, IsTrue}
 use Rattle.psos_calls.specs.Language.Script.{Script}
 use Rattle.psos_calls.specs.Levels.{level_of}
 use Rattle.psos_model.specs.Events.{CoreState, core_step, is_enabled}
@@ -23,25 +23,30 @@ pub record MayHappen (s : Script) (c : CoreState) (u : ℕ) : Type 0 where
 -- and all that is kept is known
 pub record MayStep (s : Script) (c : CoreState) (o : Ongoing) (u : ℕ) : Type 0 where
   pub goes : MayHappen s c u
-  pub planned : IsPlanned s c o.nexts.items o.phase
+  pub planned : IsPlanned s c o.nexts.items o.phases
   pub known : AreKnown o.nexts.items
 
 -- it has happened
 pub record HasStepped (s : Script) (c : CoreState) (u : ℕ) (d : CoreState) (o : Ongoing) : Type 0 where
   pub state : d ≡ core_step s c u
-  pub planned : IsPlanned s d o.nexts.items o.phase
+  pub planned : IsPlanned s d o.nexts.items o.phases
   pub known : AreKnown o.nexts.items
 
 -- the run stopped at it: before it, or after it
 pub record HasStopped (s : Script) (c : CoreState) (u : ℕ) (d : CoreState) (o : Ongoing) : Type 0 where
   pub state : (d ≡ c) ⊎ (d ≡ core_step s c u)
-  pub planned : IsPlanned s d o.nexts.items o.phase
+  pub planned : IsPlanned s d o.nexts.items o.phases
 
 -- what is told of an event, where so many entries stood before it
 abbrev pub told : ℕ → events.Event → Event
 told stamp (events.Take lock) = Take lock
 told stamp (events.Call call) = Call (level_of call)
 told stamp (events.Close reply effect) = Close stamp
+
+-- a request was closed
+abbrev pub is_close : Event → Bool
+is_close (Close stamp) = true
+is_close _ = false
 
 -- ---- the same of a core
 

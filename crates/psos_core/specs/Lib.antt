@@ -1,4 +1,5 @@
 pub mod System
+pub mod Least
 pub mod Plans
 pub mod Faults
 pub mod Serving

@@ -1,5 +1,5 @@
 -- What users' plans do next, and what is kept of it. States docs/levels.md, "Locks".
-use Rattle.std.specs.Prelude.{◌≡◌, ℕ, ◌||◌, Bool, true, false, List, [], length, slice_get, slice_index_or, Option, Some, None, IsTrue}
+use Rattle.std.specs.Prelude.{◌≡◌, ℕ, ◌||◌, Bool, true, false, List, [], length, map, slice_get, slice_index_or, Option, Some, None, IsTrue}
 use Rattle.std.specs.Option.{option_map, option_and_then}
 use Rattle.psos_calls.specs.declared.level.Level.{Level}
 use Rattle.psos_calls.specs.Levels.Calls.{LevelCall}
@@ -18,7 +18,7 @@ use Rattle.psos_calls.specs.Locks.{lock_of}
 use Rattle.psos_calls.specs.Locks.Held.{is_held, may_take}
 use Rattle.psos_calls.specs.Plan.Requests.{plan_of}
 use Rattle.psos_calls.specs.Plan.Trace.{followed, next_of, IsTraceOf}
-use Rattle.psos_model.specs.Run.{current_phase}
+use Rattle.psos_model.specs.Run.{phase_of}
 use Rattle.psos_model.specs.Events.{CoreState, trace_of}
 use Rattle.psos_core.specs.declared.levels.Levels.{Levels}
 use Rattle.psos_core.specs.declared.ongoing.Ongoing.{Ongoing}
@@ -95,11 +95,11 @@ pub record AreFirst (s : Script) (users : List User) (nexts : List Upcoming) : T
   pub each : (u : ℕ) → Tells (slice_index_or nexts u Nothing) (option_and_then (λ (x : User). next_after s x []) (slice_get users u))
   pub known : AreKnown nexts
 
--- a core has all users of its script, and what is kept beside its state tells what each user's plan does next, and the current phase
-pub record IsPlanned (s : Script) (c : CoreState) (nexts : List Upcoming) (phase : Option ℕ) : Type 0 where
+-- a core has all users of its script, and what is kept beside its state tells what each user's plan does next, and the phase of each user
+pub record IsPlanned (s : Script) (c : CoreState) (nexts : List Upcoming) (phases : List (Option ℕ)) : Type 0 where
   pub users : length c.users ≡ length s.users
   pub held : length c.held ≡ length s.users
   pub traces : length c.traces ≡ length s.users
   pub all : length nexts ≡ length s.users
   pub each : (u : ℕ) → Tells (slice_index_or nexts u Nothing) (next_for s c u)
-  pub now : phase ≡ current_phase s c.users
+  pub phases-are : phases ≡ map (phase_of s) c.users

@@ -7,11 +7,12 @@ ghost use Rattle.psos_core.specs.Serving.{Start};
 ghost use Rattle.psos_core.specs.Plans.{next_for, may_go};
 ghost use Rattle.psos_core.specs.Events.{core_state_of, IsAfter, MayGo, told};
 
+use crate::serial::is_open;
 use crate::step::step;
 use crate::{Core, Event};
 use psos_io::Store;
 use psos_journal::StopCause;
-use psos_model::{is_left, none_left};
+use psos_model::none_left;
 use std::alloc::Global;
 
 impl<B: Store> Core<B> {
@@ -22,8 +23,16 @@ impl<B: Store> Core<B> {
         requires { user < length self.now.script.users }
         ensures { result ≡ is_enabled self.now.script (core_state_of self.now) user }
     {
+        self.may_go(user) && self.is_left(user)
+    }
+
+    // Whether a user has a request left.
+    fn is_left(&self, user: u8) -> bool
+        requires { user < length self.now.script.users }
+        ensures { result ≡ has_left self.now.script self.now.levels.privates.items user }
+    {
         let me = &self.levels.privates.as_slice()[user as usize];
-        self.may_go(user) && is_left(&self.script, me, self.ongoing.phase)
+        is_open(me) || self.ongoing.phases.is_current(user as usize)
     }
 
     // Whether the plan of a user's request may go on.
@@ -43,7 +52,7 @@ impl<B: Store> Core<B> {
         none_left(
             &self.script,
             self.levels.privates.as_slice(),
-            self.ongoing.phase,
+            self.ongoing.phases.current(),
         )
     }
 

@@ -7,6 +7,7 @@ mod events;
 mod levels;
 mod ongoing;
 mod perform;
+mod phases;
 mod plan;
 mod planning;
 mod run;

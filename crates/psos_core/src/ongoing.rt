@@ -1,16 +1,16 @@
 // What users have under way.
-ghost use Rattle.std.specs.Prelude.{◌≡◌, ◌≤◌, ◌<◌, [], length, replicate, slice_index_or, IfOk, Option};
+ghost use Rattle.std.specs.Prelude.{◌≡◌, ◌≤◌, ◌<◌, [], length, map, replicate, slice_index_or, IfOk, Option};
 ghost use Rattle.psos_calls.specs.declared.next.Next.{Next};
 ghost use Rattle.psos_calls.specs.Language.Script.{IsWellFormed};
 ghost use Rattle.psos_calls.specs.Levels.{Levels};
 ghost use Rattle.psos_calls.specs.Levels.Lists.{HasLists};
-ghost use Rattle.psos_model.specs.Run.{current_phase};
+ghost use Rattle.psos_model.specs.Run.{phase_of};
 ghost use Rattle.psos_core.specs.Plans.{call_in, known_of, may_go, AreFirst, IsLeveled, Tells};
 
+use crate::phases::{Phases, phase_of};
 use crate::planning::planned;
 use crate::upcoming::Upcoming;
 use psos_calls::{Level, LevelCall, Next, Private, Script, Trace, lock_of};
-use psos_model::current_phase;
 use psos_sysproc::Table;
 use std::alloc::{AllocError, Global};
 
@@ -21,8 +21,8 @@ pub(crate) struct Ongoing {
     pub traces: Vec<Trace>,
     // What the plan of each user's next request does next.
     pub nexts: Vec<Upcoming>,
-    // The current phase.
-    pub phase: Option<usize>,
+    // The phases of what users ask next.
+    pub phases: Phases,
 }
 
 impl Ongoing {
@@ -34,7 +34,7 @@ impl Ongoing {
         ensures held { IfOk result (λ o. o.held ≡ replicate (length users.now) []) }
         ensures traces { IfOk result (λ o. o.traces.items ≡ replicate (length users.now) []) }
         ensures nexts { IfOk result (λ o. AreFirst script.now users.now o.nexts.items) }
-        ensures phase { IfOk result (λ o. o.phase ≡ current_phase script.now users.now) }
+        ensures phases { IfOk result (λ o. o.phases ≡ map (phase_of script.now) users.now) }
     {
         let mut traces = Vec::with_capacity(alloc, users.len())?;
         let mut nexts = Vec::with_capacity(alloc, users.len())?;
@@ -46,7 +46,7 @@ impl Ongoing {
             held: Table::new(alloc, users.len() as u8)?,
             traces,
             nexts,
-            phase: None,
+            phases: Phases::new(alloc, users.len())?,
         };
         ongoing.begin(alloc, script, users);
         Ok(ongoing)
@@ -60,17 +60,18 @@ impl Ongoing {
         requires held { length self.old.held ≡ length users.now }
         requires traces { length self.old.traces.items ≡ length users.now }
         requires all { length self.old.nexts.items ≡ length users.now }
+        requires phases { length self.old.phases ≡ length users.now }
         ensures held { self.new.held ≡ replicate (length users.now) [] }
         ensures traces { self.new.traces.items ≡ replicate (length users.now) [] }
         ensures nexts { AreFirst script.now users.now self.new.nexts.items }
-        ensures phase { self.new.phase ≡ current_phase script.now users.now }
+        ensures phases { self.new.phases ≡ map (phase_of script.now) users.now }
     {
         'users: for u in 0..users.len() {
             self.held.release(u as u8);
             self.traces[u].clear();
             self.nexts[u] = planned(alloc, script, &users[u], &self.traces[u]);
+            self.phases.set(u, phase_of(script, &users[u]));
         }
-        self.phase = current_phase(script, users);
     }
 
     /// The call that the plan of a user's request asks for.

@@ -39,7 +39,7 @@ pub struct Core<B: Store> {
     trace: Trace,
     // What users have under way in a run by events.
     pub(crate) ongoing: Ongoing,
-    ghost planned: { IsPlanned script (state_in levels ongoing entries) ongoing.nexts.items ongoing.phase },
+    ghost planned: { IsPlanned script (state_in levels ongoing entries) ongoing.nexts.items ongoing.phases },
     ghost known: { stopped ≡ None → AreKnown ongoing.nexts.items },
     ghost goes_on: { stopped ≡ None → ∥ GoesOn script (state_in levels ongoing entries) ∥₁ },
     ghost later: { start_faults.value ≤ B.faults levels.pages.store },

@@ -52,7 +52,7 @@ fn asked_up_to(script: &Script, p: usize, u: usize) -> usize
     asked_before(script.users()[u].phases(), p + 1)
 }
 
-fn is_open(me: &Private) -> bool
+pub(crate) fn is_open(me: &Private) -> bool
     ensures { result ≡ is_open me.now.frames }
 {
     me.label_and_line().is_some()

@@ -9,13 +9,13 @@ ghost use Rattle.psos_core.specs.Events.{MayStep, HasStepped, HasStopped, told};
 
 use crate::ongoing::Ongoing;
 use crate::perform::make;
+use crate::phases::phase_of;
 use crate::planning::planned;
 use crate::upcoming::Upcoming;
 use crate::{Event, Levels};
 use psos_calls::{Entry, Level, LevelCall, Next, Script, lock_of};
 use psos_io::Store;
 use psos_journal::{Entries, StopCause};
-use psos_model::current_phase;
 use psos_sysproc::Want;
 use std::alloc::Global;
 use std::mem;
@@ -136,7 +136,9 @@ fn close<B: Store>(
         &levels.privates.as_slice()[u],
         &ongoing.traces[u],
     );
-    ongoing.phase = current_phase(script, levels.privates.as_slice());
+    ongoing
+        .phases
+        .set(u, phase_of(script, &levels.privates.as_slice()[u]));
     ongoing.held.release(user);
     Ok(Event::Close(stamp))
 }

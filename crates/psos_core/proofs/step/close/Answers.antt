@@ -1,11 +1,11 @@
-use Rattle.std.proofs.Common.{◌≡◌, ◌++◌, ◌∷◌, [], length, set, refl, sym, ap, ◌∙◌, subst, arith}
+use Rattle.std.proofs.Common.{◌≡◌, ◌++◌, ◌∷◌, [], length, map, set, refl, sym, ap, ◌∙◌, subst, arith}
 use Rattle.std.specs.List.{refill}
 use Rattle.std.specs.Vec.{with_item}
 use Rattle.std.proofs.lemmas.Grind.{common_steps}
 use Rattle.std.proofs.lemmas.Option.{same_Some}
 use Rattle.psos_calls.specs.Language.User.{User, CanSettle, place_of, after}
 use Rattle.psos_calls.specs.Plan.Trace.{calls_in}
-use Rattle.psos_model.specs.Run.{current_phase}
+use Rattle.psos_model.specs.Run.{phase_of}
 use Rattle.psos_model.specs.Events.{trace_of}
 use Rattle.psos_core.specs.declared.levels.Levels.{Levels}
 use Rattle.psos_core.specs.declared.ongoing.Ongoing.{Ongoing}
@@ -14,8 +14,8 @@ use Rattle.psos_core.specs.Plans.{state_in}
 use Rattle.psos_core.proofs.UserSlots.{found_there}
 use Rattle.psos_core.proofs.EventStep.{in_place}
 use Rattle.psos_core.proofs.EventRun.{few}
-use Rattle.psos_core.proofs.EventParts.{below, holds, traced, closed_is, closing, waits, shut}
-use Rattle.psos_core.proofs.CloseFacts.{is_at_close, settles, answered_room, within_room, parts_then, empty_then, can_plan_then, tells_then}
+use Rattle.psos_core.proofs.EventParts.{below, holds, traced, phased, closed_is, closing, waits, shut}
+use Rattle.psos_core.proofs.CloseFacts.{is_at_close, settles, answered_room, within_room, parts_then, phases_then, empty_then, can_plan_then, tells_then}
 use Rattle.psos_core.proofs.step.close.Goals as goal
 
 pub place-n-requires-clause-answered : goal.place-n-requires-clause-answered
@@ -38,6 +38,9 @@ index_mut-requires-2 g c = grind (arith, traced _ _ _ _ c.requires.may)
 
 pub index-requires-2 : goal.index-requires-2
 index-requires-2 g c = grind (arith, traced _ _ _ _ c.requires.may)
+
+pub set-requires : goal.set-requires
+set-requires g c = phased _ _ _ _ c.requires.may
 
 pub release-requires : goal.release-requires
 release-requires g c = holds _ _ _ _ c.requires.may
@@ -77,17 +80,19 @@ returns-clause-happened g c =
     let steps : c.in-Ok.steps ≡ calls_in (trace_of now u) = c.in-Ok.ensures ∙ ap calls_in (in_place now.traces u c.index.result.now [] (traced s now o u c.requires.may) c.index.ensures) in
     let place : (c.place-n.result.0, c.place-n.result.1) ≡ place_of x = c.place-n.ensures ∙ ap place_of (same_Some c.index-as_slice-u.result x (sym first ∙ closes.here)) in
     let pushed : c.push.new.self ≡ c.args.entries.now ++ record { user = u; n = c.place-n.result.0; m = c.place-n.result.1; steps = c.in-Ok.steps; reply = w.reply } ∷ [] = grind (arith, common_steps) in
-    let phase : c.current_phase-ongoing.result ≡ current_phase s (set now.users u (after s x w.effect)) = c.current_phase-ongoing.ensures ∙ ap (current_phase s) (c.as_slice-3.ensures.value ∙ parts) in
+    let phases : c.set.new.self ≡ map (phase_of s) (set now.users u (after s x w.effect)) =
+    c.set.ensures ∙ phases_then _ _ _ _ _ _ _ closes c.as_mut_slice.result.now c.as_mut_slice.ensures.value c.index-as_mut_slice-u.is c.settle.new.self c.settle.ensures
+    c.as_slice-3.result.now c.index-as_slice-u-3.result c.phase_of.result o.phases c.as_slice-3.ensures.value c.index-as_slice-u-3.is c.phase_of.ensures c.requires.may.planned.phases-are in
     let m : Levels _ = record l { privates = record { items = refill (length now.users) now.users (set c.as_mut_slice.result.now u c.settle.new.self) } } in
     let p : Ongoing = record {
       held = c.release.new.self;
       traces = with_item o.traces u c.clear.new.self;
       nexts = with_item (with_item o.nexts u c.replace.new.dest) u c.planned.result;
-      phase = c.current_phase-ongoing.result;
+      phases = c.set.new.self;
     } in
     shut s now o u c.requires.may w.reply w.effect closes.asked x closes.here (state_in m p c.push.new.self) p c.planned.result
     (closed_is s l m o p c.args.entries.now c.push.new.self u x w.reply w.effect c.clear.new.self c.in-Ok.steps c.place-n.result.0 c.place-n.result.1 refl parts c.release.ensures.held refl c.clear.ensures steps place pushed)
-    tells (c.planned.ensures.first empty) (ap (λ (n : Upcoming). set (set o.nexts.items u n) u c.planned.result) c.replace.ensures.after) phase
+    tells (c.planned.ensures.first empty) (ap (λ (n : Upcoming). set (set o.nexts.items u n) u c.planned.result) c.replace.ensures.after) phases
 
 pub returns-then-is_err-clause-left : goal.returns-then-is_err-clause-left
 returns-then-is_err-clause-left g c =
@@ -98,5 +103,5 @@ returns-then-is_err-clause-left g c =
     let w = c.in-Known-Close in
     let asked = closing s (state_in l o c.args.entries.now) o u c.requires.may c.index_mut.result.now c.replace.result w.field-0 w.reply w.effect c.index_mut.ensures.value c.replace.ensures.value w.is w.field-0-is in
     let same : c.push.new.self ≡ c.args.entries.now = grind (arith, common_steps) in
-    let p : Ongoing = record { held = o.held; traces = o.traces; nexts = with_item o.nexts u c.replace.new.dest; phase = o.phase } in
+    let p : Ongoing = record { held = o.held; traces = o.traces; nexts = with_item o.nexts u c.replace.new.dest; phases = o.phases } in
     waits s (state_in l o c.args.entries.now) o u c.requires.may w.reply w.effect asked (state_in l p c.push.new.self) p (ap (state_in l o) same) (ap (set o.nexts.items u) c.replace.ensures.after) refl

@@ -79,7 +79,7 @@ returns-then-not-known-clause-why g c =
 pub returns-in_err-make-clause-left : goal.returns-in_err-make-clause-left
 returns-in_err-make-clause-left g c =
     let o = c.args.ongoing.now in
-    let left : Ongoing = record { held = o.held; traces = with_item o.traces c.args.user c.make.new.trace; nexts = o.nexts; phase = o.phase } in
+    let left : Ongoing = record { held = o.held; traces = with_item o.traces c.args.user c.make.new.trace; nexts = o.nexts; phases = o.phases } in
     on_err c.from_residual.result (stayed _ _ o _ c.requires.may (state_in c.make.new.levels left c.args.entries.now) left
     (same_is c.args.levels.now c.make.new.levels o left c.args.entries.now c.args.user c.index_mut.result.now c.make.new.trace c.in_err-make.ensures.kept c.make.ensures.privates refl refl c.in_err-make.ensures.unchanged c.index_mut.ensures.value) refl refl)
 

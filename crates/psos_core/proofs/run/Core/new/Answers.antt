@@ -1,7 +1,7 @@
-use Rattle.std.proofs.Common.{◌≡◌, List, [], length, replicate, inl, sym, ap, subst, ◌∙◌}
+use Rattle.std.proofs.Common.{◌≡◌, List, [], length, map, replicate, inl, sym, ap, subst, ◌∙◌}
 use Rattle.psos_calls.specs.Language.Script.{Script}
 use Rattle.psos_calls.specs.Language.User.{User}
-use Rattle.psos_model.specs.Run.{current_phase}
+use Rattle.psos_model.specs.Run.{phase_of}
 use Rattle.psos_agree.proofs.EntryLists.{directories_are_lists}
 use Rattle.std.proofs.lemmas.Grind.{merely}
 use Rattle.psos_core.specs.System.{levels_of, system_of}
@@ -44,6 +44,6 @@ invariant_of-result-clause-planned g c =
     let users = c.as_slice.ensures.value in
     let all : length l.privates.items ≡ length s.users = ap (λ (us : List User). length us) start.stands.users ∙ start.start.sound.all_users in
     let first : AreFirst s l.privates.items o.nexts.items = subst (λ (us : List User). AreFirst s us o.nexts.items) users is.nexts in
-    let P : Script → Type 0 = λ z. IsPlanned z (state_in l o c.empty.result) o.nexts.items o.phase in
+    let P : Script → Type 0 = λ z. IsPlanned z (state_in l o c.empty.result) o.nexts.items o.phases in
     subst P (sym c.script.view_is) (first_planned s l o c.empty.result all (is.held ∙ ap (λ (us : List User). replicate (length us) []) users)
-    (is.traces ∙ ap (λ (us : List User). replicate (length us) []) users) first (is.phase ∙ ap (current_phase s) users))
+    (is.traces ∙ ap (λ (us : List User). replicate (length us) []) users) first (is.phases ∙ ap (map (phase_of s)) users))
