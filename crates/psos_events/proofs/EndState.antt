@@ -23,7 +23,7 @@ use Rattle.psos_agree.proofs.LocksTaken.{lock_at}
 use Rattle.psos_events.proofs.Progress.{StillGoes, from_start}
 
 -- levels are the same where each of them is
-same_levels : (a b : Levels) → a.next ≡ b.next → a.pages ≡ b.pages → a.segs ≡ b.segs → a.types ≡ b.types
+pub same_levels : (a b : Levels) → a.next ≡ b.next → a.pages ≡ b.pages → a.segs ≡ b.segs → a.types ≡ b.types
     → a.dirs ≡ b.dirs → a.life ≡ b.life → a.boxes ≡ b.boxes → a.codes ≡ b.codes → a ≡ b
 same_levels a b next pages segs types dirs life boxes codes =
     let whole : Levels = record { next = a.next; pages = a.pages; segs = a.segs; types = a.types; dirs = a.dirs; life = a.life; boxes = a.boxes; codes = a.codes } in

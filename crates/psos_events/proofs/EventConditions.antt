@@ -36,7 +36,7 @@ use Rattle.psos_events.proofs.EventMoves.{IsAsking, by_event}
 use Rattle.psos_events.proofs.ReplayInvariant.{HasDone, has_done, stands_now}
 
 -- what holds along a plan's run holds after a trace of it
-runs_on : (plan : Plan) (l : Levels) (trace : List Step) (P : Levels → Reply → Effect → Type 0) → IsTraceOf plan l trace → Runs plan l P → Runs (followed plan trace) (traced l trace) P
+pub runs_on : (plan : Plan) (l : Levels) (trace : List Step) (P : Levels → Reply → Effect → Type 0) → IsTraceOf plan l trace → Runs plan l P → Runs (followed plan trace) (traced l trace) P
 runs_on (Close reply effect) l [] P is h = h
 runs_on (Close reply effect) l (t ∷ trace) P is h = absurd is
 runs_on (Ask call go) l [] P is h = h

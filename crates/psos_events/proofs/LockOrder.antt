@@ -22,10 +22,10 @@ AreInOrder (k ∷ locks) = (are_earlier locks k ≡ true) × AreInOrder locks
 -- ---- plans whose calls fit, whatever is answered
 
 -- the lock is held or fits
-abbrev MayTake : ℕ × List LockId → LevelCall → Type 0
+abbrev pub MayTake : ℕ × List LockId → LevelCall → Type 0
 MayTake (users, locks) call = fits locks (lock_of users call) ≡ true
 
-abbrev taken : ℕ × List LockId → LevelCall → ℕ × List LockId
+abbrev pub taken : ℕ × List LockId → LevelCall → ℕ × List LockId
 taken (users, locks) call = (users, with_lock locks (lock_of users call))
 
 -- however many calls it makes

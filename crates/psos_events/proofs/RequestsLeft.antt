@@ -19,7 +19,7 @@ use Rattle.psos_laws.proofs.UserSoundness.{each_set}
 -- ---- phases from one on
 
 -- it is this phase, or a later one, or none
-abbrev AtLeast : ℕ → Option ℕ → Type 0
+abbrev pub AtLeast : ℕ → Option ℕ → Type 0
 AtLeast p None = Unit {0}
 AtLeast p (Some q) = p ≤ q
 
@@ -121,7 +121,7 @@ index_up [] (q ∷ outer) n = omega arith
 index_up (r ∷ others) [] n = omega arith
 index_up (r ∷ others) (q ∷ outer) n = omega arith
 
-user_rises : (s : Script) (x : User) (e : Effect) (p : ℕ) → AtLeast p (phase_of s x) → AtLeast p (phase_of s (after s x e))
+pub user_rises : (s : Script) (x : User) (e : Effect) (p : ℕ) → AtLeast p (phase_of s x) → AtLeast p (phase_of s (after s x e))
 user_rises s x e p h =
     let z = after s x e in
     let on = after_on s x e in
@@ -146,7 +146,7 @@ least_of p (Some q) None h g = h
 least_of p (Some q) (Some r) h g = omega (arith, h, g)
 
 -- no user is in an earlier phase
-abbrev NoneEarlier : Script → ℕ → ℕ → User → Type 0
+abbrev pub NoneEarlier : Script → ℕ → ℕ → User → Type 0
 NoneEarlier s p v x = AtLeast p (phase_of s x)
 
 each_least : (s : Script) (users : List User) (p : ℕ) → AtLeast p (current_phase s users) → (v : ℕ) (x : User) → slice_get users v ≡ Some x → NoneEarlier s p v x
@@ -154,7 +154,7 @@ each_least s [] p h v x here = absurd (none-some x here)
 each_least s (y ∷ ys) p h zero x here = subst (λ (z : User). AtLeast p (phase_of s z)) (same_Some y x here) (both_least p (phase_of s y) (current_phase s ys) h).0
 each_least s (y ∷ ys) p h (suc v) x here = each_least s ys p (both_least p (phase_of s y) (current_phase s ys) h).1 v x here
 
-all_least : (s : Script) (users : List User) (p : ℕ) → ((v : ℕ) (x : User) → slice_get users v ≡ Some x → NoneEarlier s p v x) → AtLeast p (current_phase s users)
+pub all_least : (s : Script) (users : List User) (p : ℕ) → ((v : ℕ) (x : User) → slice_get users v ≡ Some x → NoneEarlier s p v x) → AtLeast p (current_phase s users)
 all_least s [] p h = tt
 all_least s (y ∷ ys) p h = least_of p (phase_of s y) (current_phase s ys) (h zero y refl) (all_least s ys p (λ v x here. h (suc v) x here))
 
@@ -163,24 +163,24 @@ current_by : (p : ℕ) (o : Option ℕ) → AtLeast p o → ((q : ℕ) → AtLea
 current_by p None h most = absurd (omega (arith, most (p + 1) tt))
 current_by p (Some r) h most = ap (λ (n : ℕ). Some n) {x = r} {y = p} (omega (arith, h, most r (omega arith)))
 
-current_is : (s : Script) (users : List User) (p v : ℕ) (x : User) → slice_get users v ≡ Some x → phase_of s x ≡ Some p → AtLeast p (current_phase s users) → current_phase s users ≡ Some p
+pub current_is : (s : Script) (users : List User) (p v : ℕ) (x : User) → slice_get users v ≡ Some x → phase_of s x ≡ Some p → AtLeast p (current_phase s users) → current_phase s users ≡ Some p
 current_is s users p v x here mine low =
     current_by p (current_phase s users) low (λ q least. subst (AtLeast q) mine (each_least s users q least v x here))
 
 -- ---- who has a request left
 
 -- two phases that are the same
-record AreNow (a b : Option ℕ) : Type 0 where
-  phase : ℕ
-  first : a ≡ Some phase
-  second : b ≡ Some phase
+pub record AreNow (a b : Option ℕ) : Type 0 where
+  pub phase : ℕ
+  pub first : a ≡ Some phase
+  pub second : b ≡ Some phase
 
 now_parts : (a b : Option ℕ) → is_now a b ≡ true → AreNow a b
 now_parts None b h = absurd (true≢false (sym h))
 now_parts (Some p) None h = absurd (true≢false (sym h))
 now_parts (Some p) (Some q) h = record { phase = p; first = refl; second = ap (λ (n : ℕ). Some n) (sym (eqb-true p q h)) }
 
-now_from : (a b : Option ℕ) → AreNow a b → is_now a b ≡ true
+pub now_from : (a b : Option ℕ) → AreNow a b → is_now a b ≡ true
 now_from a b h =
     ap (λ (o : Option ℕ). is_now o b) h.first ∙ (ap (λ (o : Option ℕ). is_now (Some h.phase) o) h.second ∙ eq-eqb h.phase h.phase refl)
 

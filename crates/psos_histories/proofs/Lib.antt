@@ -1,0 +1,11 @@
+pub mod Pieces
+pub mod Members
+pub mod LockHistories
+pub mod RecordLimits
+pub mod Falling
+pub mod Requests
+pub mod RequestConditions
+pub mod BitNames
+pub mod OwnParts
+pub mod Closes
+pub mod Phases

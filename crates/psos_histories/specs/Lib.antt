@@ -1,0 +1,9 @@
+pub mod Pieces
+pub mod Histories
+pub mod Names
+pub mod Records
+pub mod Grips
+pub mod Falling
+pub mod Requests
+pub mod Closes
+pub mod Phases
