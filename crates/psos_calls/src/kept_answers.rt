@@ -58,7 +58,8 @@ impl KeptAnswers {
         requires words { length words.now ≡ 64 }
         ensures { self.new ≡ self.old ++ Whole words.now ∷ [] }
     {
-        self.told.push_reserved(LevelAnswer::Whole(self.pages.len() as u8));
+        self.told
+            .push_reserved(LevelAnswer::Whole(self.pages.len() as u8));
         self.pages.push(words);
     }
 

@@ -95,7 +95,8 @@ fn push_words(words: &mut Vec<Word>, call: &LevelCall)
 {
     match call {
         LevelCall::Locate {
-            word: Some(word), ..
+            word: Some(word),
+            ..
         } => words.push_reserved(*word),
         LevelCall::FourPut { words: four, .. } => push_four(words, four),
         _ => {}

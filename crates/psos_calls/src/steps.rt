@@ -39,11 +39,7 @@ impl Steps {
     }
 
     // The calls that are kept so, with their words among these, in no more memory than they need.
-    pub(crate) fn of(
-        alloc: Global,
-        calls: &[KeptCall],
-        words: &[Word],
-    ) -> Result<Steps, AllocError>
+    pub(crate) fn of(alloc: Global, calls: &[KeptCall], words: &[Word]) -> Result<Steps, AllocError>
         ensures { IfOk result (λ s. s ≡ calls_of words.now calls.now) }
     {
         let mut kept = Vec::with_capacity(alloc, calls.len())?;

@@ -128,7 +128,7 @@ module _ (pages : Pages) (slot : ℕ) (h : HoldsList pages slot) where
   from_words (suc n) k all =
       let words = drop (64 * k) (slot_words pages slot) in
       let next : drop (64 * (k + 1)) (slot_words pages slot) ≡ drop 64 words =
-          ap (λ (i : ℕ). drop i (slot_words pages slot)) {x = 64 * (k + 1)} {y = 64 * k + 64} (omega arith) ∙ sym (drop-drop 64 (64 * k) (slot_words pages slot)) in
+      ap (λ (i : ℕ). drop i (slot_words pages slot)) {x = 64 * (k + 1)} {y = 64 * k + 64} (omega arith) ∙ sym (drop-drop 64 (64 * k) (slot_words pages slot)) in
       ap (λ (page : List Word). page ++ words_of (from n (k + 1))) (page_is k (omega arith))
       ∙ ap (λ (rest : List Word). take 64 words ++ rest) (from_words n (k + 1) (omega arith) ∙ next)
       ∙ take-append-drop 64 words
