@@ -29,7 +29,7 @@ impl<'a> Model for CallRef<'a> {
 
 impl<'a> CallRef<'a> {
     // The call that is kept so, with its words among these.
-    #[inline]
+    #[inline(always)]
     pub(crate) fn of(kept: &'a KeptCall, words: &'a [Word]) -> CallRef<'a>
         ensures { result ≡ call_of words.now kept.now }
     {
@@ -59,6 +59,7 @@ impl<'a> CallRef<'a> {
     }
 
     /// Its level.
+    #[inline(always)]
     pub fn level(&self) -> Level
         ensures { result ≡ level_of self.now }
     {

@@ -64,7 +64,7 @@ impl KeptAnswers {
     }
 
     /// Answer i.
-    #[inline]
+    #[inline(always)]
     pub fn answer(&self, i: usize) -> LevelAnswer<Sheet<'_>>
         requires { i < length self.now }
         ensures { slice_get self.now i ≡ Some result }
@@ -82,7 +82,7 @@ impl KeptAnswers {
 }
 
 // The answer that is told so, with its page among these.
-#[inline]
+#[inline(always)]
 fn as_told<'a>(told: &LevelAnswer<u8>, pages: &'a [Page]) -> LevelAnswer<Sheet<'a>>
     requires { IsTold (length pages.now) told.now }
     ensures { result ≡ answer_of pages.now told.now }

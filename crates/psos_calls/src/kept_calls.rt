@@ -62,7 +62,7 @@ impl KeptCalls {
     }
 
     /// Call i.
-    #[inline]
+    #[inline(always)]
     pub fn call(&self, i: usize) -> CallRef<'_>
         requires { i < length self.now }
         ensures { slice_get self.now i ≡ Some (level_of result, result) }

@@ -54,7 +54,7 @@ impl<'a> StepSlice<'a> {
     }
 
     /// The first, and those behind it. None exactly where there is none.
-    #[inline]
+    #[inline(always)]
     pub fn split_first(&self) -> Option<(Step<'a>, StepSlice<'a>)>
         ensures { self.now ≡ joined result }
     {
@@ -91,7 +91,7 @@ impl<'a> StepSlice<'a> {
     }
 
     /// The last. None exactly where there is none.
-    #[inline]
+    #[inline(always)]
     pub fn last(&self) -> Option<Step<'a>>
         ensures { result ≡ slice_get self.now (length self.now - 1) }
     {

@@ -79,7 +79,7 @@ impl Trace {
     }
 
     /// Step i.
-    #[inline]
+    #[inline(always)]
     pub fn step(&self, i: usize) -> Step<'_>
         requires { i < length self.now }
         ensures { slice_get self.now i ≡ Some result }
