@@ -1,5 +1,6 @@
 -- A call is the call of what lies under its lock, and what lies under the locks is all of the levels.
 use Rattle.std.proofs.Common.{◌≡◌, ℕ, ◌<◌, Bool, true, false, eqb, List, [], ◌∷◌, ◌++◌, length, nat_lt, Option, Some, None, refl, sym, ap, ◌∙◌, inl, inr, subst}
+use Rattle.std.specs.Prelude.{IsSome, is_some}
 use Rattle.std.proofs.lemmas.Bool.{cases_eq, true≢false, eq-eqb, eqb-true, lt-ltb}
 use Rattle.psos_table.specs.Table.{at}
 use Rattle.psos_caps.specs.declared.cap.Uid.{Uid}
@@ -23,7 +24,7 @@ use Rattle.psos_calls.specs.Levels.Level8.{SegState}
 use Rattle.psos_calls.specs.Levels.Level9.{TypeState}
 use Rattle.psos_calls.specs.Levels.Level10.{DirState}
 use Rattle.psos_calls.specs.Levels.Level11.{LifeState}
-use Rattle.psos_calls.specs.Levels.Level12.{BoxState, act12}
+use Rattle.psos_calls.specs.Levels.Level12.{BoxState, act12, Can12}
 use Rattle.psos_calls.specs.Levels.Level13.{CodeState}
 use Rattle.psos_calls.specs.Levels.{Levels, level_of, act_at, act, Can_at, Can}
 use Rattle.psos_calls.specs.Locks.Held.{is_lock, same_lock}
@@ -32,7 +33,7 @@ use Rattle.psos_calls.specs.Locks.{box_of, part_of, lock_of}
 use Rattle.psos_model.specs.Flat.Boot.{process_of}
 use Rattle.psos_model.specs.Events.Serial.{SameAt}
 use Rattle.psos_procs.specs.Mailbox.{box_drawn}
-use Rattle.psos_histories.specs.Pieces.{Piece, Codes, Box, Life, Dirs, Types, Segs, Slots, Next, piece_in, piece_at, HasOwners, act_if_box, act_piece, can_piece, CallsAreOfPieces, PiecesAreAll}
+use Rattle.psos_histories.specs.Pieces.{Piece, Codes, Box, Life, Dirs, Types, Segs, Slots, Next, piece_in, piece_at, HasOwners, act_if_box, act_piece, can_box, can_piece, CallsAreOfPieces, PiecesAreAll}
 use Rattle.psos_table.proofs.Tables.{same_table}
 use Rattle.psos_events.proofs.MailboxRows.{NoOthers, target, row_after, row_if, put_if, put_if_here, put_if_apart, absent_stays, act12_is, part_is, box_below}
 use Rattle.psos_events.proofs.LockScope.{Same, others_stay}
@@ -204,18 +205,26 @@ piece_same k a b h = record { at_lock = same_in k.level k.part a b h }
 
 -- ---- where a call can be made
 
-can_in : (level : Level) (part : ℕ) (l : Levels) (call : LevelCall) → Can_at level l call → can_piece (piece_in level part l) call
-can_in L13 part l call h = h
-can_in L12 part l call h = tt
-can_in L11 part l call h = h
-can_in L10 part l call h = h
-can_in L9 part l call h = h
-can_in L8 part l call h = h
-can_in L7 part l call h = h
-can_in L0 part l call h = h
+-- a process from which a word can be drawn has a mailbox, which is that of the call's part
+box_there : (n : ℕ) (s : BoxState) (call : LevelCall) → NoOthers n s → Can12 s call → can_box (at s (process_of (part_of n call))) call
+box_there n s (Draw uid) h can = elim (cases_eq uid.0 (process_of (box_of n uid.0))) [
+  | inl mine ↦ subst (λ (q : ℕ). IsSome (at s q)) mine can
+  | inr other ↦ absurd (true≢false (sym can ∙ ap is_some (h.none uid.0 other)))
+]
+box_there n s _ h can = tt
 
-pub can_alone : (n : ℕ) (l : Levels) (call : LevelCall) → Can l call → can_piece (piece_at (lock_of n call) l) call
-can_alone n l call h = can_in (level_of call) (part_of n call) l call h
+can_in : (n : ℕ) (l : Levels) (call : LevelCall) (level : Level) → NoOthers n l.boxes → Can_at level l call → can_piece (piece_in level (part_of n call) l) call
+can_in n l call L13 h can = can
+can_in n l call L12 h can = box_there n l.boxes call h can
+can_in n l call L11 h can = can
+can_in n l call L10 h can = can
+can_in n l call L9 h can = can
+can_in n l call L8 h can = can
+can_in n l call L7 h can = can
+can_in n l call L0 h can = can
+
+pub can_alone : (n : ℕ) (l : Levels) (call : LevelCall) → NoOthers n l.boxes → Can l call → can_piece (piece_at (lock_of n call) l) call
+can_alone n l call h can = can_in n l call (level_of call) h can
 
 -- ---- laws
 

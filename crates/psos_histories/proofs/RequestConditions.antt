@@ -31,13 +31,15 @@ use Rattle.psos_agree.proofs.RequestsAgree.{all_agree}
 use Rattle.psos_events.specs.Replays.{RunStands}
 use Rattle.psos_events.proofs.EventConditions.{runs_on}
 use Rattle.psos_events.proofs.LockScope.{same_lock_is}
-use Rattle.psos_events.proofs.OpenTraces.{trace_within}
+use Rattle.psos_events.proofs.MailboxRows.{NoOthers}
+use Rattle.psos_events.proofs.OpenTraces.{traced_strangers, trace_within}
 use Rattle.psos_events.proofs.Replays.{runs_stand}
 use Rattle.psos_histories.specs.Pieces.{Piece, piece_at, can_piece}
 use Rattle.psos_histories.specs.Records.{order_in, replay_in}
 use Rattle.psos_histories.specs.Grips.{Grip, AreIn}
 use Rattle.psos_histories.specs.Requests.{IsWorking, CanIn, RequestsAreAble}
 use Rattle.psos_histories.proofs.Pieces.{can_alone}
+use Rattle.psos_histories.proofs.LockHistories.{replay_strangers}
 
 module _ (s : Script) (y : System) (f : Flat) (start : IsCoreStart s y f) (u : ℕ) (x : User) (request : Request) (grips : List Grip) (trace : List Step) (log : List (Entry × ℕ))
     (w : IsWorking s y f u x (plan_of x request) grips trace log) (asks : next_request s x ≡ Some request) where
@@ -67,17 +69,20 @@ module _ (s : Script) (y : System) (f : Flat) (start : IsCoreStart s y f) (u : �
   can_call : (call : LevelCall) (go : LevelAnswer → Plan) → followed (plan_of x request) trace ≡ Ask call go → Can (traced base.levels trace) call
   can_call call go next = (subst (λ (p : Plan). Runs p (traced base.levels trace) (Meets x base flat (outcome flat x request))) next left_runs).0
 
-  can_each : (n : ℕ) (l : Levels) (call : LevelCall) → Can l call → (grips : List Grip) → AreIn n l grips → CanIn grips (lock_of n call) call
-  can_each n l call can [] h i g there same = absurd (none-some g there)
-  can_each n l call can (q ∷ grips) h zero g there same =
+  can_each : (n : ℕ) (l : Levels) (call : LevelCall) → NoOthers n l.boxes → Can l call → (grips : List Grip) → AreIn n l grips → CanIn grips (lock_of n call) call
+  can_each n l call others can [] h i g there same = absurd (none-some g there)
+  can_each n l call others can (q ∷ grips) h zero g there same =
       let is : q ≡ g = same_Some q g there in
       let lock : q.lock ≡ lock_of n call = same_lock_is q.lock (lock_of n call) (subst (λ (r : Grip). same_lock r.lock (lock_of n call) ≡ true) (sym is) same) in
       let piece : piece_at (lock_of n call) l ≡ q.piece = ap (λ (k : LockId). piece_at k l) (sym lock) ∙ sym h.1 in
-      subst (λ (r : Grip). can_piece r.piece call) is (subst (λ (p : Piece). can_piece p call) piece (can_alone n l call can))
-  can_each n l call can (q ∷ grips) h (suc i) g there same = can_each n l call can grips h.3 i g there same
+      subst (λ (r : Grip). can_piece r.piece call) is (subst (λ (p : Piece). can_piece p call) piece (can_alone n l call others can))
+  can_each n l call others can (q ∷ grips) h (suc i) g there same = can_each n l call others can grips h.3 i g there same
 
   can_make : (call : LevelCall) (go : LevelAnswer → Plan) → followed (plan_of x request) trace ≡ Ask call go → CanIn grips (lock_of (length s.users) call) call
-  can_make call go next = can_each (length s.users) (traced base.levels trace) call (can_call call go next) grips w.grips_are
+  can_make call go next =
+      let n = length s.users in
+      let others = traced_strangers n base.levels trace (replay_strangers s y f start (order_in log)) in
+      can_each n (traced base.levels trace) call others (can_call call go next) grips w.grips_are
 
   -- the close
   pub can_close : (reply : Reply) (effect : Effect) → followed (plan_of x request) trace ≡ Close reply effect → IsTrue (has_left s base.users u) → CanSettle x effect

@@ -1,5 +1,5 @@
 -- What lies under one lock is a machine of its own. States docs/levels.md, "Locks".
-use Rattle.std.specs.Prelude.{◌≡◌, ℕ, ◌-◌, ◌^◌, ◌<◌, false, List, [], ◌∷◌, Option, Some, None, IsTrue}
+use Rattle.std.specs.Prelude.{◌≡◌, ℕ, ◌-◌, ◌^◌, ◌<◌, false, List, [], ◌∷◌, Option, Some, None, IsSome, IsTrue}
 use Rattle.psos_table.specs.Table.{at}
 use Rattle.psos_words.specs.declared.word.Word.{Word}
 use Rattle.psos_calls.specs.declared.kind.Kind.TheVariants.{Process}
@@ -81,10 +81,15 @@ abbrev pub after_all : Piece → List LevelCall → Piece
 after_all p [] = p
 after_all p (call ∷ calls) = after_all (act_piece p call).0 calls
 
--- the condition of a call; a mailbox asks nothing of a call that goes to it
+-- a word is drawn from a mailbox that is there
+abbrev pub can_box : Option (List Word) → LevelCall → Type 0
+can_box box (Draw uid) = IsSome box
+can_box box _ = Unit {0}
+
+-- the condition of a call, where it goes to this piece
 abbrev pub can_piece : Piece → LevelCall → Type 0
 can_piece (Codes c) call = Can13 c call
-can_piece (Box part box) call = Unit {0}
+can_piece (Box part box) call = can_box box call
 can_piece (Life c) call = Can11 c call
 can_piece (Dirs c) call = Can10 c call
 can_piece (Types c) call = Can9 c call
