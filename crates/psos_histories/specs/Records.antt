@@ -1,16 +1,17 @@
 -- What a journal of several threads records: a replay in a legal order, under each lock by its own history. States docs/levels.md, "Locks" and "Journal".
-use Rattle.std.specs.Prelude.{◌≡◌, ℕ, ◌<◌, ◌≤◌, List, length, slice_get, Some, IsTrue}
+use Rattle.std.specs.Prelude.{◌≡◌, ℕ, ◌<◌, ◌≤◌, ◌==◌, List, length, filter, slice_get, Some, IsTrue}
 use Rattle.psos_limits.specs.declared.TheConstants.{MOST_REQUESTS}
 use Rattle.psos_calls.specs.declared.lock_id.LockId.{LockId}
 use Rattle.psos_calls.specs.declared.entry.Entry.{Entry}
-use Rattle.psos_calls.specs.Language.Script.{Script}
+use Rattle.psos_calls.specs.Language.Script.{Script, IsWellFormed}
 use Rattle.psos_calls.specs.Language.User.{User}
 use Rattle.psos_calls.specs.Levels.{Levels}
 use Rattle.psos_calls.specs.Levels.Lists.{HasLists}
 use Rattle.psos_calls.specs.Locks.Held.{is_lock}
 use Rattle.psos_model.specs.Flat.{Flat}
+use Rattle.psos_model.specs.Flat.Boot.{boot}
 use Rattle.psos_model.specs.Run.{IsLegalFrom}
-use Rattle.psos_model.specs.Replay.{System, replay_from, entries_from, order_of}
+use Rattle.psos_model.specs.Replay.{System, boot_system, replay_from, entries_from, order_of, AreFaithful}
 use Rattle.psos_model.specs.Events.Serial.{IsCoreStart}
 use Rattle.psos_journal.specs.Members.{entries_of, named}
 use Rattle.psos_histories.specs.Pieces.{Piece, HasOwners, piece_at, after_all}
@@ -62,3 +63,11 @@ RecordsHaveUsers = (s : Script) (y : System) (f : Flat) (log : List (Entry × �
 -- in the levels of the replay the words of each live directory are an entry list
 abbrev pub RecordsHaveLists : Type 0
 RecordsHaveLists = (s : Script) (y : System) (f : Flat) (log : List (Entry × ℕ)) → IsCoreStart s y f → IsRecorded s y f log → HasLists (replay_in s y log).levels
+
+-- the entries of a run from boot are faithful
+abbrev pub RecordsAreFaithful : Type 0
+RecordsAreFaithful = (s : Script) (log : List (Entry × ℕ)) → IsWellFormed s → IsRecorded s (boot_system s) (boot s) log → AreFaithful s (entries_of log)
+
+-- the list of a user's member is that user's entries, in order
+abbrev pub ListsAreUsers : Type 0
+ListsAreUsers = (n u : ℕ) (log : List (Entry × ℕ)) → u < n → AllNamed n log → named u log ≡ filter (λ (e : Entry). e.user == u) (entries_of log)

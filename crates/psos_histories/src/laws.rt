@@ -1,7 +1,7 @@
 // Laws of histories by lock, and of requests at work.
 ghost use Rattle.psos_histories.specs.Pieces.{CallsAreOfPieces, PiecesAreAll};
 ghost use Rattle.psos_histories.specs.Names.{LocksAreMembers};
-ghost use Rattle.psos_histories.specs.Records.{HistoriesByLock, HistoriesAreReplay, RecordsAreFew, RecordsHaveUsers, RecordsHaveLists};
+ghost use Rattle.psos_histories.specs.Records.{HistoriesByLock, HistoriesAreReplay, RecordsAreFew, RecordsHaveUsers, RecordsHaveLists, RecordsAreFaithful, ListsAreUsers};
 ghost use Rattle.psos_histories.specs.Grips.{HistoriesBegin};
 ghost use Rattle.psos_histories.specs.Falling.{PlansFall};
 ghost use Rattle.psos_histories.specs.Requests.{RequestsBegin, RequestsGoOn, LocksAreTaken, CallsAreMade, RequestsAreAble};
@@ -56,6 +56,16 @@ pub fn records_have_users()
 /// (docs/promises.md, "Stands for").
 pub fn records_have_lists()
     ensures { RecordsHaveLists }
+{}
+
+/// The entries of what is recorded from boot are faithful (docs/promises.md, "Replays").
+pub fn records_are_faithful()
+    ensures { RecordsAreFaithful }
+{}
+
+/// The list of a user's member is that user's entries, in order (docs/levels.md, "Journal").
+pub fn lists_are_users()
+    ensures { ListsAreUsers }
 {}
 
 /// The plan of each request asks for its locks in the falling order, whatever the levels answer (docs/levels.md,
