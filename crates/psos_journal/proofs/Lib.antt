@@ -2,5 +2,6 @@ pub mod Beginnings
 pub mod StepRule
 pub mod MemberEntries
 pub mod JournalInvariant
-pub mod ZeroLists
+pub mod GroupedCounts
 pub mod MetMembers
+pub mod TakenMembers

@@ -1,108 +1,71 @@
 -- The counts of members on both sides. It states docs/levels.md, "Journal".
-use Rattle.std.specs.Prelude.{◌≡◌, ℕ, List, [], ◌∷◌}
+use Rattle.std.specs.Prelude.{◌≡◌, ℕ, ◌+◌, List, [], ◌∷◌, ◌++◌}
 use Rattle.psos_journal.specs.declared.blanks.Blanks.{Blanks}
 use Rattle.psos_journal.specs.declared.books.Books.{Books}
 use Rattle.psos_journal.specs.declared.mark.Mark.{Mark}
-use Rattle.psos_journal.specs.declared.mark.Mark.TheVariants.{Member0, Member1, Member2, Member3, Member4, Member5, Member6, Member7, Member8, Member9, Member10, Member11, Member12, Member13, Member14, Member15, Member16, Member17, Member18, Member19, Member20, Member21, Member22, Member23}
+use Rattle.psos_journal.specs.declared.mark.Mark.TheVariants.{From0, From6, From12, From18}
+use Rattle.psos_journal.specs.declared.one_of_six.OneOfSix.{OneOfSix}
+use Rattle.psos_journal.specs.declared.one_of_six.OneOfSix.TheVariants.{First, Second, Third, Fourth, Fifth, Sixth}
+use Rattle.psos_journal.specs.declared.six_blanks.SixBlanks.{SixBlanks}
+use Rattle.psos_journal.specs.declared.six_counts.SixCounts.{SixCounts}
+use Rattle.psos_journal.specs.declared.six_shares.SixShares.{SixShares}
+
+-- which of six members it is
+abbrev pub place_of : {G : Type 0} → OneOfSix G → ℕ
+place_of (First own) = 0
+place_of (Second own) = 1
+place_of (Third own) = 2
+place_of (Fourth own) = 3
+place_of (Fifth own) = 4
+place_of (Sixth own) = 5
+
+-- the number of its entries, as the member has it
+abbrev pub amount_at : {G : Type 0} → OneOfSix G → ℕ
+amount_at (First own) = own.share.amount
+amount_at (Second own) = own.share.amount
+amount_at (Third own) = own.share.amount
+amount_at (Fourth own) = own.share.amount
+amount_at (Fifth own) = own.share.amount
+amount_at (Sixth own) = own.share.amount
 
 -- which member it is
 abbrev pub number_of : {T : Type 0} → Mark T → ℕ
-number_of (Member0 own) = 0
-number_of (Member1 own) = 1
-number_of (Member2 own) = 2
-number_of (Member3 own) = 3
-number_of (Member4 own) = 4
-number_of (Member5 own) = 5
-number_of (Member6 own) = 6
-number_of (Member7 own) = 7
-number_of (Member8 own) = 8
-number_of (Member9 own) = 9
-number_of (Member10 own) = 10
-number_of (Member11 own) = 11
-number_of (Member12 own) = 12
-number_of (Member13 own) = 13
-number_of (Member14 own) = 14
-number_of (Member15 own) = 15
-number_of (Member16 own) = 16
-number_of (Member17 own) = 17
-number_of (Member18 own) = 18
-number_of (Member19 own) = 19
-number_of (Member20 own) = 20
-number_of (Member21 own) = 21
-number_of (Member22 own) = 22
-number_of (Member23 own) = 23
+number_of (From0 own) = place_of own
+number_of (From6 own) = 6 + place_of own
+number_of (From12 own) = 12 + place_of own
+number_of (From18 own) = 18 + place_of own
 
 -- the number of its entries, as the member has it
 abbrev pub amount_of : {T : Type 0} → Mark T → ℕ
-amount_of (Member0 own) = own.share.amount
-amount_of (Member1 own) = own.share.amount
-amount_of (Member2 own) = own.share.amount
-amount_of (Member3 own) = own.share.amount
-amount_of (Member4 own) = own.share.amount
-amount_of (Member5 own) = own.share.amount
-amount_of (Member6 own) = own.share.amount
-amount_of (Member7 own) = own.share.amount
-amount_of (Member8 own) = own.share.amount
-amount_of (Member9 own) = own.share.amount
-amount_of (Member10 own) = own.share.amount
-amount_of (Member11 own) = own.share.amount
-amount_of (Member12 own) = own.share.amount
-amount_of (Member13 own) = own.share.amount
-amount_of (Member14 own) = own.share.amount
-amount_of (Member15 own) = own.share.amount
-amount_of (Member16 own) = own.share.amount
-amount_of (Member17 own) = own.share.amount
-amount_of (Member18 own) = own.share.amount
-amount_of (Member19 own) = own.share.amount
-amount_of (Member20 own) = own.share.amount
-amount_of (Member21 own) = own.share.amount
-amount_of (Member22 own) = own.share.amount
-amount_of (Member23 own) = own.share.amount
+amount_of (From0 own) = amount_at own
+amount_of (From6 own) = amount_at own
+amount_of (From12 own) = amount_at own
+amount_of (From18 own) = amount_at own
+
+-- the number of each of six members' entries, as the journal has it
+abbrev pub six_totals : {G : Type 0} → SixCounts G → List ℕ
+six_totals b = b.first.book.total ∷ b.second.book.total ∷ b.third.book.total ∷ b.fourth.book.total ∷ b.fifth.book.total ∷ b.sixth.book.total ∷ []
 
 -- the number of each member's entries, as the journal has it
 abbrev pub totals : {T : Type 0} → Books T → List ℕ
-totals b =
-    b.c0.book.total ∷ b.c1.book.total ∷ b.c2.book.total ∷ b.c3.book.total
-    ∷ b.c4.book.total ∷ b.c5.book.total ∷ b.c6.book.total ∷ b.c7.book.total
-    ∷ b.c8.book.total ∷ b.c9.book.total ∷ b.c10.book.total ∷ b.c11.book.total
-    ∷ b.c12.book.total ∷ b.c13.book.total ∷ b.c14.book.total ∷ b.c15.book.total
-    ∷ b.c16.book.total ∷ b.c17.book.total ∷ b.c18.book.total ∷ b.c19.book.total
-    ∷ b.c20.book.total ∷ b.c21.book.total ∷ b.c22.book.total ∷ b.c23.book.total ∷ []
+totals b = six_totals b.from0 ++ (six_totals b.from6 ++ (six_totals b.from12 ++ six_totals b.from18))
+
+-- what six ledgers are called
+abbrev pub six_names : SixBlanks → List ℕ
+six_names b = b.first.blank.name ∷ b.second.blank.name ∷ b.third.blank.name ∷ b.fourth.blank.name ∷ b.fifth.blank.name ∷ b.sixth.blank.name ∷ []
 
 -- what the ledgers are called
 abbrev pub names_of : Blanks → List ℕ
-names_of b =
-    b.c0.blank.name ∷ b.c1.blank.name ∷ b.c2.blank.name ∷ b.c3.blank.name
-    ∷ b.c4.blank.name ∷ b.c5.blank.name ∷ b.c6.blank.name ∷ b.c7.blank.name
-    ∷ b.c8.blank.name ∷ b.c9.blank.name ∷ b.c10.blank.name ∷ b.c11.blank.name
-    ∷ b.c12.blank.name ∷ b.c13.blank.name ∷ b.c14.blank.name ∷ b.c15.blank.name
-    ∷ b.c16.blank.name ∷ b.c17.blank.name ∷ b.c18.blank.name ∷ b.c19.blank.name
-    ∷ b.c20.blank.name ∷ b.c21.blank.name ∷ b.c22.blank.name ∷ b.c23.blank.name ∷ []
+names_of b = six_names b.from0 ++ (six_names b.from6 ++ (six_names b.from12 ++ six_names b.from18))
+
+-- each of six ledgers is called what the function says of its place
+abbrev pub AreSixCalled : SixBlanks → (ℕ → ℕ) → Type 0
+AreSixCalled l f = (l.first.blank.name ≡ f 0) × (l.second.blank.name ≡ f 1) × (l.third.blank.name ≡ f 2) × (l.fourth.blank.name ≡ f 3) × (l.fifth.blank.name ≡ f 4) × (l.sixth.blank.name ≡ f 5)
 
 -- each ledger is called what the function says
 abbrev pub AreCalled : Blanks → (ℕ → ℕ) → Type 0
-AreCalled b f =
-    (b.c0.blank.name ≡ f 0)
-    × (b.c1.blank.name ≡ f 1)
-    × (b.c2.blank.name ≡ f 2)
-    × (b.c3.blank.name ≡ f 3)
-    × (b.c4.blank.name ≡ f 4)
-    × (b.c5.blank.name ≡ f 5)
-    × (b.c6.blank.name ≡ f 6)
-    × (b.c7.blank.name ≡ f 7)
-    × (b.c8.blank.name ≡ f 8)
-    × (b.c9.blank.name ≡ f 9)
-    × (b.c10.blank.name ≡ f 10)
-    × (b.c11.blank.name ≡ f 11)
-    × (b.c12.blank.name ≡ f 12)
-    × (b.c13.blank.name ≡ f 13)
-    × (b.c14.blank.name ≡ f 14)
-    × (b.c15.blank.name ≡ f 15)
-    × (b.c16.blank.name ≡ f 16)
-    × (b.c17.blank.name ≡ f 17)
-    × (b.c18.blank.name ≡ f 18)
-    × (b.c19.blank.name ≡ f 19)
-    × (b.c20.blank.name ≡ f 20)
-    × (b.c21.blank.name ≡ f 21)
-    × (b.c22.blank.name ≡ f 22)
-    × (b.c23.blank.name ≡ f 23)
+AreCalled b f = AreSixCalled b.from0 (λ i. f (0 + i)) × AreSixCalled b.from6 (λ i. f (6 + i)) × AreSixCalled b.from12 (λ i. f (12 + i)) × AreSixCalled b.from18 (λ i. f (18 + i))
+
+-- six members have no entry
+abbrev pub AreZero : {G : Type 0} → SixShares G → Type 0
+AreZero s = (s.first.share.amount ≡ 0) × (s.second.share.amount ≡ 0) × (s.third.share.amount ≡ 0) × (s.fourth.share.amount ≡ 0) × (s.fifth.share.amount ≡ 0) × (s.sixth.share.amount ≡ 0)

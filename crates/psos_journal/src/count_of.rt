@@ -1,21 +1,21 @@
 // The ledgers of members' counts.
-use crate::names::Names;
+use crate::group::Group;
 use crate::single::Single;
 use std::marker::PhantomData;
 use std::sync::ledger::Ledger;
 
-/// The ledger of the count of member `I`.
-pub struct CountOf<T, const I: u8> {
-    of: PhantomData<T>,
+/// The ledger of the count of the member at place `I` of a group.
+pub struct CountOf<G, const I: u8> {
+    of: PhantomData<G>,
 }
 
-impl<T: Names, const I: u8> Ledger for CountOf<T, I> {
-    ghost name = { T.counts I };
+impl<G: Group, const I: u8> Ledger for CountOf<G, I> {
+    ghost name = { G.counts I };
 
     ghost parts = { 1 };
 }
 
-impl<T: Names, const I: u8> Single for CountOf<T, I> {
+impl<G: Group, const I: u8> Single for CountOf<G, I> {
     ghost use Rattle.std.specs.Prelude.{refl};
 
     ghost single = { refl };

@@ -194,6 +194,8 @@ impl<T: Names, E> Journal<T, E> {
         ensures order { IfOk result (λ r. (k : ℕ) (m : Side E) → slice_get r.1.items k ≡ Some m → m ≡ new_side k) }
         ensures tally { IfOk result (λ r. (r.2.book.total ≡ 0) × (r.2.share.amount ≡ 0) × (r.2.share.parts ≡ 1)) }
     {
+        // Nothing fails behind this.
+        let all = Vec::with_capacity(alloc, 24)?;
         let Ground {
             count,
             next,
@@ -217,13 +219,12 @@ impl<T: Names, E> Journal<T, E> {
         let (told, tales) = told.open::<ToldOf<T>>();
         let (book, share) = faults.open::<FaultsOf<T>>();
         let mut row = NewMembers {
-            members: Vec::new(alloc),
+            members: all,
             past: past.again(),
             tales,
-            most: members,
+            next: 0,
         };
-        let books = open_all(counts, &mut row)?;
-        let NewMembers { members: all, .. } = row;
+        let books = open_all(counts, &mut row);
         let journal = Journal {
             entries: Entries::empty(alloc),
             past,
@@ -235,7 +236,7 @@ impl<T: Names, E> Journal<T, E> {
             stopped: None,
             left: None,
         };
-        Ok((journal, all, Tally { book, share }))
+        Ok((journal, row.into_members(members), Tally { book, share }))
     }
 
     /// All entries, in their order. Each member's list is the entries that name it, and a member that

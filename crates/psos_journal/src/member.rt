@@ -1,6 +1,7 @@
 // A member of a journal.
-ghost use Rattle.std.specs.Prelude.{◌≡◌, ◌+◌, [], true, length, IfSome, IsNone, IsOk, ◌↔◌};
-ghost use Rattle.psos_journal.specs.Views.{list_of};
+ghost use Rattle.std.specs.Prelude.{◌≡◌, ◌+◌, ◌<◌, [], true, length, IfSome, IsNone, IsOk, ◌↔◌};
+ghost use Rattle.psos_journal.specs.Counts.{number_of, amount_of};
+ghost use Rattle.psos_journal.specs.Views.{list_of, new_side};
 
 use crate::mark::Mark;
 use crate::names::Names;
@@ -38,6 +39,28 @@ impl<T: Names, E> Model for Member<T, E> {
 }
 
 impl<T: Names, E> Member<T, E> {
+    /// A member with no entry.
+    pub(crate) fn new(
+        number: u8,
+        mark: Mark<T>,
+        past: Past<T, E>,
+        tale: Share<ToldOf<T>>,
+    ) -> Member<T, E>
+        requires mark { (number_of mark ≡ number) × (amount_of mark ≡ 0) × (number < 24) }
+        requires past { past ≡ [] }
+        requires tale { (tale.parts ≡ 1) × (tale.amount ≡ 0) }
+        ensures { result ≡ new_side number }
+    {
+        Member {
+            number,
+            mark,
+            len: 0,
+            past,
+            told: false,
+            tale,
+        }
+    }
+
     /// The member's number. The journal that it is of counts its members from 0.
     pub fn number(&self) -> u8
         ensures { result ≡ self.now.number }

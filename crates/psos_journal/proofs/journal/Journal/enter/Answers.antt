@@ -32,3 +32,11 @@ returns-clause-list g c front last whole =
     let last_is = ap (λ (k : JournalState g.row.E.Denot). k.entries) c.self.view_is ∙ whole in
     rw (c.again.ensures, ← c.member.view_is)
     (comes_last m.number c.pen.inside.left m.past j.past c.joined-both.result front last held.opened is c.joined-both.ensures.this c.joined-both.ensures.that more last_is)
+
+pub returns-clause-pen : goal.returns-clause-pen
+returns-clause-pen g c =
+    let m = c.member.inside in
+    let shifted = bit_shifted m.number c.member.invariant.some_member in
+    let pen = c.pen.view_is in
+    let number = ap (λ (s : Side g.row.E.Denot). s.number) c.member.view_is in
+    cc

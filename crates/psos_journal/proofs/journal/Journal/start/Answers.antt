@@ -6,4 +6,4 @@ use Rattle.psos_journal.proofs.journal.Journal.start.Goals as goal
 pub invariant_of-journal : goal.invariant_of-journal
 invariant_of-journal g c =
     let ground = c.ground.invariant in
-    starts c.empty.result (entries_in c.ground.inside.seen.log) (totals c.in_ok-books.books) c.ground.inside.room c.open-told.result.0.total c.empty.ensures ground.3 c.in_ok-books.ensures.totals ground.7 c.open-told.ensures.total
+    starts c.empty.result (entries_in c.ground.inside.seen.log) (totals c.open_all-books.result) c.ground.inside.room c.open-told.result.0.total c.empty.ensures ground.3 c.open_all-books.ensures.totals ground.7 c.open-told.ensures.total

@@ -1,5 +1,5 @@
 use Rattle.std.specs.Prelude.{slice_index}
-use Rattle.psos_journal.proofs.tests.behind_two_locks.Given as goal
+use Rattle.psos_journal_samples.proofs.behind_locks.is_told.Given as goal
 
 -- what the ground's cells and ledgers are called
 abbrev pub ghosts-beside : goal.ghosts-beside

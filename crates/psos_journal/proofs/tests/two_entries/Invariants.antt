@@ -1,6 +1,0 @@
-use Rattle.std.specs.Prelude.{slice_index}
-use Rattle.psos_journal.proofs.tests.two_entries.Given as goal
-
--- what the ground's cells and ledgers are called
-abbrev pub ghosts-listed : goal.ghosts-listed
-ghosts-listed g a = record { book = a.ground.book; counts = λ i. slice_index a.ground.counts i; told = a.ground.told; faults = a.ground.faults }
