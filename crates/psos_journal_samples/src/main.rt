@@ -23,12 +23,16 @@ fn put_one(rt: &HostRuntime, one: one_member::Answers) -> io::Result<()> {
 
 // The answers on two members, a line each.
 fn put_two(rt: &HostRuntime, two: two_members::Answers) -> io::Result<()> {
-    println!(rt; "stamps: {} {}", two.stamps.0, two.stamps.1)?;
-    println!(rt; "entries: {}", two.len)?;
-    println!(rt; "stamp of the second member: {}", two.receipt)?;
-    println!(rt; "an entry after a stop is handed back: {}", two.is_refused)?;
-    println!(rt; "heard: {:?}", two.heard)?;
-    println!(rt; "told: {} {}", two.told.0, two.told.1)?;
+    let calls = two.calls;
+    println!(rt; "stamps: {} {}", calls.stamps.0, calls.stamps.1)?;
+    println!(rt; "entries: {}", calls.len)?;
+    println!(rt; "stamp of the second member: {}", calls.receipt)?;
+    println!(rt;
+        "an entry after a stop is handed back: {}",
+        calls.is_refused
+    )?;
+    println!(rt; "heard: {:?}", calls.heard)?;
+    println!(rt; "told: {} {}", calls.told.0, calls.told.1)?;
     println!(rt; "all entries: {:?}", two.entries.as_slice())
 }
 

@@ -1,23 +1,28 @@
 // A journal of two members.
-ghost use Rattle.std.specs.Prelude.{◌≡◌, [], length, IfSome, Some, None};
+ghost use Rattle.std.specs.Prelude.{◌≡◌, ℕ, [], length, slice_get, IfSome, Some, None};
 ghost use Rattle.psos_journal.specs.declared.stop_cause.StopCause.TheVariants.{Store};
-ghost use Rattle.psos_journal.specs.Views.{AreNamed};
+ghost use Rattle.psos_journal.specs.Views.{new_side, AreNamed, Side};
 
-use crate::last::last_of;
 use psos_journal::{BeginFault, Entries, Ground, Journal, Member, Names, StopCause};
 use std::alloc::Global;
 use std::marker::Brand;
 
-/// What the calls answer.
+/// What the calls answer, and the entries at the end.
 #[derive(Drop)]
 pub(crate) struct Answers {
+    pub(crate) calls: Calls,
+    pub(crate) entries: Entries<u8>,
+}
+
+/// What the calls answer.
+#[derive(Clone, Copy)]
+pub(crate) struct Calls {
     pub(crate) stamps: (u32, u32),
     pub(crate) len: u32,
     pub(crate) receipt: u32,
     pub(crate) is_refused: bool,
     pub(crate) heard: Option<StopCause>,
     pub(crate) told: (bool, bool),
-    pub(crate) entries: Entries<u8>,
 }
 
 /// The answers on a new journal. None only where memory runs out.
@@ -35,26 +40,38 @@ fn listed<T: Names>(alloc: Global, ground: Ground<u8>) -> Option<Answers>
     let Ok((mut journal, mut members, _tally)) = Journal::<T, u8>::start(alloc, ground) else {
         return None;
     };
-    let mut second = last_of(&mut members)?;
-    let mut first = last_of(&mut members)?;
-    let stamps = two_entries(alloc, &mut journal, &mut first, &mut second)?;
-    let receipt = known(&mut journal, &second)?;
-    journal.stop(StopCause::Store);
-    let is_refused = refused(alloc, &mut journal);
-    let heard = journal.tell(&mut first);
-    let told = (first.told(), second.told());
-    let len = journal.len();
-    if members.push(first).is_err() || members.push(second).is_err() {
-        return None;
-    }
+    let calls = answered(alloc, &mut journal, members.as_mut_slice())?;
     Some(Answers {
+        calls,
+        entries: journal.into_entries(members),
+    })
+}
+
+// What the calls on both members answer.
+fn answered<T: Names>(
+    alloc: Global,
+    journal: &mut Journal<T, u8>,
+    members: &mut [Member<T, u8>],
+) -> Option<Calls>
+    requires journal { (journal.old.left ≡ None) × (journal.old.members ≡ 2) × (journal.old.entries ≡ []) × (journal.old.room ≡ 4) }
+    requires going { journal.old.stopped ≡ None }
+    requires members { (k : ℕ) (m : Side ℕ) → slice_get members.old k ≡ Some m → m ≡ new_side k }
+    ensures spent { IfSome result (λ _. journal.new.left ≡ None) }
+{
+    let [first, second] = members else {
+        return None;
+    };
+    let stamps = two_entries(alloc, journal, first, second)?;
+    let receipt = known(journal, second)?;
+    journal.stop(StopCause::Store);
+    let is_refused = refused(alloc, journal);
+    Some(Calls {
         stamps,
-        len,
+        len: journal.len(),
         receipt,
         is_refused,
-        heard,
-        told,
-        entries: journal.into_entries(members),
+        heard: journal.tell(first),
+        told: (first.told(), second.told()),
     })
 }
 
