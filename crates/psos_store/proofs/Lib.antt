@@ -1,1 +1,2 @@
 pub mod FreeSlots
+pub mod MemoryStore
