@@ -1,8 +1,12 @@
-//! Level 7: page slots and the words of their pages.
+//! Level 7: page slots and the words of their pages, which lie in frames over a backing store.
 #![tactic(auto)]
 
+mod accesses;
+mod blocks;
+mod frames;
+mod held;
 mod pages;
-mod places;
-mod words;
+mod residence;
+mod slots;
 
 pub use pages::Pages;

@@ -1,14 +1,28 @@
-use Rattle.std.proofs.Common.{◌∙◌, ap, None, slice_index_or, slice_set}
-use Rattle.psos_pages.specs.PagePlaces.{all_read}
-use Rattle.psos_pages.proofs.SlotStates.{slot-taken, slots-give}
+use Rattle.std.proofs.Common.{◌≡◌, ◌<◌, ◌≤◌, ◌/◌, ◌+◌, ◌*◌, ◌∙◌, refl, sym, ap, arith, List, ◌∷◌, Option, Bool, ℕ, get_or, set, length, replicate, subst, false, true, [], None, Some}
+use Rattle.std.specs.Prelude.{is_some, slice_set}
+use Rattle.psos_store.specs.Slots.{least_free}
+use Rattle.psos_words.specs.Words.{zeros}
+use Rattle.psos_calls.specs.Levels.Level7.{Pages, IsTaken, first_free}
+use Rattle.psos_pages.specs.Frames.{Frame, Paging, dropped}
+use Rattle.psos_pages.specs.State.{paging_of, slots_of}
+use Rattle.psos_pages.proofs.Dropped.{Freed, Took, Fresh, freed-here, took-here, fresh}
+use Rattle.psos_pages.proofs.Seen.{slots-same, taken-at, length-slots, first_free-slots}
 use Rattle.psos_pages.proofs.pages.Pages.free.Goals as goal
 
+pub forget_slot-requires : goal.forget_slot-requires
+forget_slot-requires g c = omega (arith, (taken-at c.self.inside.taken (paging_of c.self.inside.frames (g.B.Store.blocks c.self.inside.store)) c.args.slot (subst (λ p. IsTaken p c.args.slot) (sym (ap (λ v. v.slots) c.self.view_is)) c.requires)).within, c.self.invariant.slots)
+
 pub give-requires : goal.give-requires
-give-requires g c =
-    let words = all_read c.self.inside.places.shown.items c.self.inside.places.pages.items in
-    slot-taken c.self.inside.taken words c.args.slot c.requires.0 (ap (λ v. slice_index_or v.slots c.args.slot None) c.self.view_is ∙ c.requires.1)
+give-requires g c = (taken-at c.self.inside.taken (paging_of c.self.inside.frames (g.B.Store.blocks c.self.inside.store)) c.args.slot (subst (λ p. IsTaken p c.args.slot) (sym (ap (λ v. v.slots) c.self.view_is)) c.requires)).is_taken
+
+pub invariant_of-self : goal.invariant_of-self
+invariant_of-self g c = rw c.give.ensures (freed-here {taken = c.self.inside.taken} {f = c.self.inside.frames} {h = c.forget_slot.new.frames} {bytes = g.B.Store.blocks c.self.inside.store} {slot = c.args.slot} c.self.invariant (taken-at c.self.inside.taken (paging_of c.self.inside.frames (g.B.Store.blocks c.self.inside.store)) c.args.slot (subst (λ p. IsTaken p c.args.slot) (sym (ap (λ v. v.slots) c.self.view_is)) c.requires)).within c.forget_slot.ensures).paged
 
 pub returns-clause-slots : goal.returns-clause-slots
-returns-clause-slots g c =
-    let words = all_read c.self.inside.places.shown.items c.self.inside.places.pages.items in
-    rw c.give.ensures (slots-give c.self.inside.taken words c.args.slot ∙ ap (λ v. slice_set v.slots c.args.slot None) c.self.view_is)
+returns-clause-slots g c = rw c.give.ensures ((freed-here {taken = c.self.inside.taken} {f = c.self.inside.frames} {h = c.forget_slot.new.frames} {bytes = g.B.Store.blocks c.self.inside.store} {slot = c.args.slot} c.self.invariant (taken-at c.self.inside.taken (paging_of c.self.inside.frames (g.B.Store.blocks c.self.inside.store)) c.args.slot (subst (λ p. IsTaken p c.args.slot) (sym (ap (λ v. v.slots) c.self.view_is)) c.requires)).within c.forget_slot.ensures).slots ∙ ap (λ v. set v.slots c.args.slot None) c.self.view_is)
+
+pub returns-clause-paging : goal.returns-clause-paging
+returns-clause-paging g c = (freed-here {taken = c.self.inside.taken} {f = c.self.inside.frames} {h = c.forget_slot.new.frames} {bytes = g.B.Store.blocks c.self.inside.store} {slot = c.args.slot} c.self.invariant (taken-at c.self.inside.taken (paging_of c.self.inside.frames (g.B.Store.blocks c.self.inside.store)) c.args.slot (subst (λ p. IsTaken p c.args.slot) (sym (ap (λ v. v.slots) c.self.view_is)) c.requires)).within c.forget_slot.ensures).paging ∙ ap (λ v. dropped 8 v.paging (8 * c.args.slot)) c.self.view_is
+
+pub returns-clause-count : goal.returns-clause-count
+returns-clause-count g c = (freed-here {taken = c.self.inside.taken} {f = c.self.inside.frames} {h = c.forget_slot.new.frames} {bytes = g.B.Store.blocks c.self.inside.store} {slot = c.args.slot} c.self.invariant (taken-at c.self.inside.taken (paging_of c.self.inside.frames (g.B.Store.blocks c.self.inside.store)) c.args.slot (subst (λ p. IsTaken p c.args.slot) (sym (ap (λ v. v.slots) c.self.view_is)) c.requires)).within c.forget_slot.ensures).long ∙ ap (λ v. length v.paging.frames) c.self.view_is

@@ -1,9 +1,28 @@
-use Rattle.std.proofs.Common.{◌/◌, ◌∙◌, ap, sym, length}
-use Rattle.psos_pages.proofs.SeenPages.{slot-within, page-seen}
+use Rattle.std.proofs.Common.{◌≡◌, ◌/◌, ◌∙◌, Option, ℕ, refl, sym, ap, subst, false, true, None, Some}
+use Rattle.std.specs.Prelude.{is_some}
+use Rattle.std.proofs.lemmas.Bool.{false≢true}
+use Rattle.psos_calls.specs.Levels.Level7.{IsTaken, page_words}
+use Rattle.psos_pages.specs.Frames.{frame_of, IsResident}
+use Rattle.psos_pages.specs.State.{paging_of, slots_of}
+use Rattle.psos_pages.proofs.Keeps.{page-below}
+use Rattle.psos_pages.proofs.Seen.{taken-at}
+use Rattle.psos_pages.proofs.Access.{held-there, words-there, seen-page}
 use Rattle.psos_pages.proofs.pages.Pages.page.Goals as goal
 
-pub words-requires-clause-within : goal.words-requires-clause-within
-words-requires-clause-within g c = slot-within c.self.inside.taken (ap (λ v. v.slots) c.self.view_is) c.self.invariant.0 c.self.invariant.2 (c.args.page / 8) c.requires
+pub frame_of-requires : goal.frame_of-requires
+frame_of-requires g c =
+    page-below c.self.inside.taken c.args.page c.self.invariant.slots
+    (taken-at c.self.inside.taken (paging_of c.self.inside.frames (g.B.Store.blocks c.self.inside.store)) (c.args.page / 8)
+    (subst (λ p. IsTaken p (c.args.page / 8)) (sym (ap (λ v. v.slots) c.self.view_is)) c.requires.taken)).is_taken
+
+pub page-requires : goal.page-requires
+page-requires g c = held-there c.self.inside.frames.frames c.args.page c.in-Some.frame (sym c.frame_of.ensures ∙ c.in-Some.is)
 
 pub returns-clause-words : goal.returns-clause-words
-returns-clause-words g c = c.words.ensures.words ∙ page-seen c.self.inside.taken (ap (λ v. v.slots) c.self.view_is) c.self.invariant.0 c.self.invariant.2 c.args.page c.requires (sym (ap length c.words.ensures.words) ∙ c.words.ensures.all)
+returns-clause-words g c =
+    let s = paging_of c.self.inside.frames (g.B.Store.blocks c.self.inside.store) in
+    let slots : slots_of c.self.inside.taken s ≡ c.args.self.now.slots = ap (λ v. v.slots) c.self.view_is in
+    c.words.ensures.words ∙ c.page.ensures
+    ∙ words-there s c.self.invariant.sound c.args.page c.in-Some.frame (sym c.frame_of.ensures ∙ c.in-Some.is)
+    ∙ seen-page c.self.inside.taken s c.self.invariant.sound c.args.page (subst (λ p. IsTaken p (c.args.page / 8)) (sym slots) c.requires.taken)
+    ∙ ap (λ p. page_words p c.args.page) slots

@@ -1,13 +1,21 @@
-use Rattle.std.proofs.Common.{◌/◌, ◌∙◌, ap}
-use Rattle.psos_pages.specs.SlotViews.{slots_of}
-use Rattle.psos_pages.proofs.SeenPages.{slot-within, put-seen}
+use Rattle.std.proofs.Common.{◌≡◌, ◌<◌, ◌≤◌, ◌/◌, ◌+◌, ◌∙◌, refl, sym, ap, arith, List, ◌∷◌, Option, Bool, ℕ, get_or, set, length, replicate, subst, false, true, [], None, Some}
+use Rattle.std.proofs.lemmas.List.{length-set}
+use Rattle.psos_words.specs.declared.word.Word.{Word}
+use Rattle.psos_words.specs.Words.{word_at}
+use Rattle.psos_calls.specs.Levels.Level7.{Pages, IsTaken, around, place_in_slot, page_words, with_words, written}
+use Rattle.psos_pages.specs.Frames.{Frame, Paging, frame_of}
+use Rattle.psos_pages.specs.State.{paging_of, slots_of}
+use Rattle.psos_pages.proofs.Access.{Looked, Changed, looked-here, changed-here, held-there, words-there, words-long, seen-word, seen-page, seen-written, length-written}
+use Rattle.psos_pages.proofs.Seen.{slots-same}
 use Rattle.psos_pages.proofs.pages.Pages.put.Goals as goal
 
-pub touch-at-requires-clause-within : goal.touch-at-requires-clause-within
-touch-at-requires-clause-within g c = slot-within c.self.inside.taken (ap (λ v. v.slots) c.self.view_is) c.self.invariant.0 c.self.invariant.2 (c.args.page / 8) c.requires.taken
+pub put-requires-clause-there : goal.put-requires-clause-there
+put-requires-clause-there g c = held-there c.self.inside.frames.frames c.args.page c.in-Ok.frame (ap (λ v. frame_of v.paging.frames c.args.page) c.self.view_is ∙ c.in-Ok.ensures.found)
+
+pub invariant_of-self : goal.invariant_of-self
+invariant_of-self g c = (changed-here {taken = c.self.inside.taken} {f = c.self.inside.frames} {h = c.put.new.self} {bytes = g.B.Store.blocks c.self.inside.store} c.self.invariant c.args.page c.in-Ok.frame (ap (λ v. frame_of v.paging.frames c.args.page) c.self.view_is ∙ c.in-Ok.ensures.found) (λ (words : List Word). set words c.args.off c.args.word) (λ (words : List Word). length-set words c.args.off c.args.word) c.put.ensures.frames c.put.ensures.hand c.put.ensures.stored).paged
 
 pub returns-clause-slots : goal.returns-clause-slots
 returns-clause-slots g c =
-    rw c.put.ensures.words
-    (put-seen c.self.inside.taken (ap (slots_of c.self.inside.taken) c.touch-at.ensures.words ∙ ap (λ v. v.slots) c.self.view_is) c.self.invariant.0 c.touch-at.ensures.placed
-    c.args.page c.args.off c.touch-at.result c.requires.taken c.touch-at.ensures.place c.touch-at.ensures.own c.index_mut.result.now c.index_mut.ensures.value c.put.ensures.all c.args.word c.requires.within)
+    seen-written c.self.inside.taken (paging_of c.self.inside.frames (g.B.Store.blocks c.self.inside.store)) c.self.invariant.sound c.args.page (subst (λ p. IsTaken p (c.args.page / 8)) (sym (ap (λ v. v.slots) c.self.view_is ∙ c.in-Ok.ensures.slots)) c.requires.taken) (paging_of c.put.new.self (g.B.Store.blocks c.self.inside.store)) c.args.off (c.args.word ∷ []) (omega (arith, c.requires.within)) (changed-here {taken = c.self.inside.taken} {f = c.self.inside.frames} {h = c.put.new.self} {bytes = g.B.Store.blocks c.self.inside.store} c.self.invariant c.args.page c.in-Ok.frame (ap (λ v. frame_of v.paging.frames c.args.page) c.self.view_is ∙ c.in-Ok.ensures.found) (λ (words : List Word). set words c.args.off c.args.word) (λ (words : List Word). length-set words c.args.off c.args.word) c.put.ensures.frames c.put.ensures.hand c.put.ensures.stored).here (changed-here {taken = c.self.inside.taken} {f = c.self.inside.frames} {h = c.put.new.self} {bytes = g.B.Store.blocks c.self.inside.store} c.self.invariant c.args.page c.in-Ok.frame (ap (λ v. frame_of v.paging.frames c.args.page) c.self.view_is ∙ c.in-Ok.ensures.found) (λ (words : List Word). set words c.args.off c.args.word) (λ (words : List Word). length-set words c.args.off c.args.word) c.put.ensures.frames c.put.ensures.hand c.put.ensures.stored).apart
+    ∙ ap (λ p. with_words p c.args.page (written (around p c.args.page) (place_in_slot c.args.page c.args.off) (c.args.word ∷ []))) (ap (λ v. v.slots) c.self.view_is ∙ c.in-Ok.ensures.slots)

@@ -1,10 +1,25 @@
-use Rattle.std.proofs.Common.{◌/◌, ◌∙◌, ap}
+use Rattle.std.proofs.Common.{◌≡◌, ◌<◌, ◌≤◌, ◌/◌, ◌+◌, ◌∙◌, refl, sym, ap, arith, List, ◌∷◌, Option, Bool, ℕ, get_or, set, length, replicate, subst, false, true, [], None, Some}
+use Rattle.std.proofs.lemmas.List.{length-set}
+use Rattle.psos_words.specs.declared.word.Word.{Word}
 use Rattle.psos_words.specs.Words.{word_at}
-use Rattle.psos_pages.proofs.SeenPages.{slot-within, word-seen}
+use Rattle.psos_calls.specs.Levels.Level7.{Pages, IsTaken, around, place_in_slot, page_words, with_words, written}
+use Rattle.psos_pages.specs.Frames.{Frame, Paging, frame_of}
+use Rattle.psos_pages.specs.State.{paging_of, slots_of}
+use Rattle.psos_pages.proofs.Access.{Looked, Changed, looked-here, changed-here, held-there, words-there, words-long, seen-word, seen-page, seen-written, length-written}
+use Rattle.psos_pages.proofs.Seen.{slots-same}
 use Rattle.psos_pages.proofs.pages.Pages.word.Goals as goal
 
-pub words-requires-clause-within : goal.words-requires-clause-within
-words-requires-clause-within g c = slot-within c.self.inside.taken (ap (λ v. v.slots) c.self.view_is) c.self.invariant.0 c.self.invariant.2 (c.args.page / 8) c.requires.taken
+pub word-requires-clause-there : goal.word-requires-clause-there
+word-requires-clause-there g c = held-there c.self.inside.frames.frames c.args.page c.in-Ok.frame (ap (λ v. frame_of v.paging.frames c.args.page) c.self.view_is ∙ c.in-Ok.ensures.found)
 
-pub returns : goal.returns
-returns g c = ap (λ ws. word_at ws c.args.off) c.words.ensures.words ∙ word-seen c.self.inside.taken (ap (λ v. v.slots) c.self.view_is) c.self.invariant.0 c.self.invariant.2 c.args.page c.args.off c.requires.taken c.requires.within
+pub invariant_of-self : goal.invariant_of-self
+invariant_of-self g c = (looked-here {taken = c.self.inside.taken} {f = c.self.inside.frames} {h = c.word.new.self} {bytes = g.B.Store.blocks c.self.inside.store} c.self.invariant c.args.page c.in-Ok.frame (ap (λ v. frame_of v.paging.frames c.args.page) c.self.view_is ∙ c.in-Ok.ensures.found) c.word.ensures.frames c.word.ensures.hand c.word.ensures.stored).paged
+
+pub returns-clause-slots : goal.returns-clause-slots
+returns-clause-slots g c = slots-same c.self.inside.taken (paging_of c.self.inside.frames (g.B.Store.blocks c.self.inside.store)) (paging_of c.word.new.self (g.B.Store.blocks c.self.inside.store)) 0 (looked-here {taken = c.self.inside.taken} {f = c.self.inside.frames} {h = c.word.new.self} {bytes = g.B.Store.blocks c.self.inside.store} c.self.invariant c.args.page c.in-Ok.frame (ap (λ v. frame_of v.paging.frames c.args.page) c.self.view_is ∙ c.in-Ok.ensures.found) c.word.ensures.frames c.word.ensures.hand c.word.ensures.stored).keeps.words ∙ (ap (λ v. v.slots) c.self.view_is ∙ c.in-Ok.ensures.slots)
+
+pub returns-clause-word : goal.returns-clause-word
+returns-clause-word g c =
+    c.word.ensures.word ∙ ap (λ w. word_at w c.args.off) (words-there (paging_of c.self.inside.frames (g.B.Store.blocks c.self.inside.store)) c.self.invariant.sound c.args.page c.in-Ok.frame (ap (λ v. frame_of v.paging.frames c.args.page) c.self.view_is ∙ c.in-Ok.ensures.found))
+    ∙ seen-word c.self.inside.taken (paging_of c.self.inside.frames (g.B.Store.blocks c.self.inside.store)) c.self.invariant.sound c.args.page (subst (λ p. IsTaken p (c.args.page / 8)) (sym (ap (λ v. v.slots) c.self.view_is ∙ c.in-Ok.ensures.slots)) c.requires.taken) c.args.off c.requires.within
+    ∙ ap (λ p. word_at (around p c.args.page) (place_in_slot c.args.page c.args.off)) (ap (λ v. v.slots) c.self.view_is ∙ c.in-Ok.ensures.slots)
