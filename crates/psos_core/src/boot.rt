@@ -15,6 +15,7 @@ ghost use Rattle.psos_model.specs.Replay.BootLevels.{home_slot, home_words, boot
 ghost use Rattle.psos_model.specs.Replay.{boot_system};
 ghost use Rattle.psos_model.specs.Flat.Within.{IsShort};
 ghost use Rattle.psos_core.specs.System.{system_of};
+ghost use Rattle.psos_pages.specs.Quiet.{IsQuiet};
 ghost use Rattle.psos_core.specs.Booting.{first_taken, with_homes, AreBlank, boot_slots};
 
 use crate::Levels;
@@ -37,10 +38,10 @@ use std::alloc::{AllocError, Global};
 impl<B: Store> Levels<B> {
     /// The states at boot (docs/system.md, "Boot"; docs/levels.md, "Pages and slots"): the root, each user's process,
     /// home and scratch segment, and the entry of the scratch segment in each home. No page but the first of each home
-    /// is touched, and the store stays as it was: no call of it is made. The number of frames has no effect today.
+    /// is touched, at most eight, and there are at least eight frames: the store stays as it was, and no call of it is
+    /// made.
     ///
-    /// `Err` only where memory runs out, or for a fault of the store in a call of level 7; today there is no such
-    /// fault.
+    /// `Err` only where memory runs out.
     pub fn boot(
         alloc: Global,
         script: &Script,
@@ -72,11 +73,12 @@ impl<B: Store> Levels<B> {
 
 // ---- level 7
 
-// Takes the first slots. It changes nothing in the store.
+// Takes the first slots. It changes nothing in frames and store.
 fn take_slots<B: Store>(pages: &mut Pages<B>, alloc: Global, count: u16) -> Result<(), AllocError>
     requires free { pages.old.slots ≡ replicate SLOTS None }
     requires few { count ≤ SLOTS }
     ensures slots { OnOk result (pages.new.slots ≡ first_taken count) }
+    ensures paging { OnOk result (pages.new.paging ≡ pages.old.paging) }
     ensures store { pages.new.store ≡ pages.old.store }
 {
     if count == 0 {
@@ -103,10 +105,12 @@ fn scratch_entry(i: u8) -> [Word; 4]
     ]
 }
 
-// Puts it into entry slot 0 of the home.
+// Puts it into entry slot 0 of the home, whose page is brought into a free frame.
 fn put_entry<B: Store>(pages: &mut Pages<B>, alloc: Global, i: u8) -> Result<(), AllocError>
     requires user { i < 8 }
     requires blank { slice_index_or pages.old.slots (home_slot i) None ≡ Some (zeros MOST_WORDS) }
+    requires quiet { IsQuiet (8 - i) pages.old.paging }
+    ensures quiet { OnOk result (IsQuiet (8 - (i + 1)) pages.new.paging) }
     ensures slots { OnOk result (pages.new.slots ≡ slice_set pages.old.slots (home_slot i) (Some (home_words i))) }
     ensures store { pages.new.store ≡ pages.old.store }
 {
@@ -130,6 +134,7 @@ fn put_entries<B: Store>(
 ) -> Result<(), AllocError>
     requires few { i + length texts.now ≤ 8 }
     requires blank { AreBlank i (length texts.now) pages.old.slots }
+    requires quiet { IsQuiet (8 - i) pages.old.paging }
     ensures slots { OnOk result (pages.new.slots ≡ with_homes i texts.now pages.old.slots) }
     ensures store { pages.new.store ≡ pages.old.store }
 {

@@ -38,7 +38,7 @@ fn stop_cause(fault: &LevelFault) -> StopCause
     }
 }
 
-/// Makes a call, and keeps it in the trace with its answer; a page is copied into the trace from where it lies. It stops
+/// Makes a call, and keeps it in the trace with its answer; a page is copied into the trace from its frame. It stops
 /// for want of memory, where the call adds a row, or for a fault of the store, which its count shows, at level 7. Then
 /// the levels and the trace are as they were.
 pub(crate) fn make<B: Store>(
@@ -64,6 +64,9 @@ pub(crate) fn make<B: Store>(
     ensures cause { MayStop (B.faults levels.old.pages.store) (B.faults levels.new.pages.store) result }
 {
     if let LevelCall::PageGet { page } = *call {
+        let Ok(()) = levels.pages.bring(page) else {
+            return Err(StopCause::Store);
+        };
         trace.push_page(call, levels.pages.page(page));
         return Ok(());
     }

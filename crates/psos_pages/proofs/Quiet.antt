@@ -9,8 +9,8 @@ use Rattle.psos_calls.specs.Language.Tests.{if_there}
 use Rattle.psos_calls.specs.Levels.Calls.{LevelCall}
 use Rattle.psos_calls.specs.declared.level_call.LevelCall.TheVariants.{PageTake, WordGet, WordPut, PageGet, FourPut}
 use Rattle.psos_calls.specs.Levels.Level7.{written}
-use Rattle.psos_pages.specs.Frames.{Frame, Paging, frame_at, frame_of, free_frame, at_frame, has_free, is_changed, chosen, with_room, filled, fetched, brought, accessed, looked_at, put_in, writes, reads, needs_store, paged, calls_store}
-use Rattle.psos_pages.specs.Quiet.{count_free, IsQuiet, StaysQuiet}
+use Rattle.psos_pages.specs.Frames.{Frame, Paging, at_first, frame_at, frame_of, free_frame, at_frame, has_free, is_changed, chosen, with_room, filled, fetched, brought, accessed, looked_at, put_in, writes, reads, needs_store, paged, calls_store}
+use Rattle.psos_pages.specs.Quiet.{count_free, IsQuiet, StaysQuiet, QuietFrames}
 use Rattle.psos_pages.proofs.Room.{room-free}
 
 some-free : (s : List (Option Frame)) → 0 < count_free s → free_frame s < length s
@@ -81,7 +81,7 @@ pub quiet-take : {n : ℕ} {s : Paging} → IsQuiet n s → StaysQuiet s PageTak
 quiet-take k = record { silent = refl; quiet = k }
 
 -- at first all frames are free
-pub quiet-new : (n : ℕ) → IsQuiet n (record { frames = replicate n None; hand = 0; blocks = replicate 4168 None })
+pub quiet-new : (n : ℕ) → IsQuiet n (at_first n)
 quiet-new n = record { room = omega (arith, all n); none = λ p. none 4168 p }
   where
     all : (m : ℕ) → count_free (replicate m None) ≡ m
@@ -92,3 +92,13 @@ quiet-new n = record { room = omega (arith, all n); none = λ p. none 4168 p }
     none zero p = refl
     none (suc m) zero = refl
     none (suc m) (suc p) = none m p
+
+pub quiet-frames : QuietFrames
+quiet-frames = record {
+  start = quiet-new;
+  take = λ n s k. quiet-take k;
+  get = λ n s page off k. quiet-get k page off;
+  put = λ n s page off word k. quiet-put k page off word;
+  page = λ n s page k. quiet-page k page;
+  four = λ n s page off four k. quiet-four k page off four;
+}

@@ -1,5 +1,5 @@
 // Level 7.
-ghost use Rattle.std.specs.Prelude.{◌≡◌, ◌≤◌, ◌/◌, None, true, false, replicate, length, IfOk, IfErr, OnErr, OnOk};
+ghost use Rattle.std.specs.Prelude.{◌≡◌, ◌≤◌, ◌<◌, ◌/◌, None, true, false, replicate, length, IfOk, IfErr, OnErr, OnOk};
 ghost use Rattle.psos_limits.specs.declared.TheConstants.{SLOTS, MOST_PAGE_FRAMES, LEAST_PAGE_FRAMES};
 ghost use Rattle.psos_io.specs.Causes.{HasCause};
 ghost use Rattle.psos_calls.specs.Levels.Answers.{with_any_page};
@@ -76,11 +76,12 @@ impl<B: Store> Pages<B> {
         store
     }
 
-    /// What always holds: there are at least eight frames, and a page lies in at most one; the words of a page of a taken
-    /// slot are its frame's where it is resident, else its block's where it has one, else data 0; and the block of each
-    /// page that has one reads as the words that the page has there.
+    /// What always holds: there are at least eight frames, and the hand stands at one of them; a page lies in at most one;
+    /// the words of a page of a taken slot are its frame's where it is resident, else its block's where it has one, else
+    /// data 0; and the block of each page that has one reads as the words that the page has there.
     pub fn laws(&self)
         ensures some { 8 ≤ length self.now.paging.frames }
+        ensures stands { self.now.paging.hand < length self.now.paging.frames }
         ensures one { IsOne self.now.paging.frames }
         ensures words { ShowsWords self.now.slots self.now.paging }
         ensures blocks { HoldsBlocks self.now.paging.blocks (B.blocks self.now.store) }
