@@ -7,6 +7,7 @@ pub mod PlanRun
 pub mod UserSlots
 pub mod RequestServing
 pub mod RunsFromBoot
+pub mod BootFrames
 pub mod BootTables
 pub mod EventStep
 pub mod EventRun
