@@ -215,6 +215,9 @@ impl<B: Store> Part for Pages<B> {
         trace: &mut Trace,
     ) -> Result<(), LevelFault> {
         if let LevelCall::PageGet { page } = *call {
+            let Ok(()) = self.bring(page) else {
+                return Err(LevelFault::Store);
+            };
             trace.push_page(call, self.page(page));
             return Ok(());
         }
