@@ -1,22 +1,22 @@
 -- What an access does to the words that are seen.
-use Rattle.std.proofs.Common.{◌≡◌, ℕ, zero, suc, ◌+◌, ◌*◌, ◌<◌, ◌≤◌, ◌/◌, ◌%◌, Bool, true, false, List, [], ◌∷◌, ◌⊎◌, Option, Some, None, length, take, drop, get_or, set, refl, sym, ap, ◌∙◌, inl, inr, arith, subst}
+use Rattle.std.proofs.Common.{◌≡◌, ℕ, ◌+◌, ◌*◌, ◌<◌, ◌≤◌, ◌/◌, ◌%◌, Bool, true, false, List, [], ◌∷◌, ◌⊎◌, Option, Some, None, length, take, drop, get_or, set, refl, sym, ap, ◌∙◌, inl, inr, arith, subst}
 use Rattle.std.specs.Prelude.{option_map}
 use Rattle.std.proofs.lemmas.List.{length-set, set-get_or}
-use Rattle.std.proofs.lemmas.Option.{none-some, same_Some}
-use Rattle.std.proofs.lemmas.Bool.{cases_eq, cases_lt, true≢false}
+use Rattle.std.proofs.lemmas.Option.{none-some}
+use Rattle.std.proofs.lemmas.Bool.{true≢false}
 use Rattle.psos_words.specs.declared.word.Word.{Word}
 use Rattle.psos_words.specs.Words.{zeros, word_at}
 use Rattle.psos_calls.specs.Language.Tests.{if_there}
-use Rattle.psos_calls.specs.Levels.Level7.{Pages, IsTaken, slot_words, around, place_in_slot, page_words, with_words, written}
-use Rattle.psos_pages.specs.Frames.{Frame, Paging, frame_at, frame_of, frame_words, block_words, words_of, at_frame, looked_at, put_in, brought, fetched, with_room, needs_store, writes, reads}
+use Rattle.psos_calls.specs.Levels.Level7.{IsTaken, around, place_in_slot, page_words, with_words, written}
+use Rattle.psos_pages.specs.Frames.{Frame, Paging, frame_at, frame_of, frame_words, block_words, words_of, at_frame, looked_at, put_in}
 use Rattle.psos_pages.specs.Kept.{FramesState, IsHeld}
-use Rattle.psos_pages.specs.State.{IsSound, IsPaged, AreStored, paging_of, blocks_of, slots_of, slots_from, pages_from, slot_with, ShowsWords, HoldsBlocks}
-use Rattle.psos_pages.proofs.Machine.{FoundAt, found-at, not-found, words-in, words-out, sound-put, words-marked, words-put_here, words-put_apart}
+use Rattle.psos_pages.specs.State.{IsSound, IsPaged, AreStored, paging_of, blocks_of, slots_of, slots_from, pages_from, ShowsWords, HoldsBlocks}
+use Rattle.psos_pages.proofs.Machine.{found-at, words-in, sound-put, words-marked, words-put_here, words-put_apart}
 use Rattle.psos_pages.proofs.Keeps.{Keeps}
 use Rattle.psos_pages.proofs.Room.{same-paging, paged-on}
 use Rattle.psos_words.specs.Block.{page_of}
 use Rattle.psos_pages.proofs.Stored.{block-none, block-some}
-use Rattle.psos_pages.proofs.Seen.{TakenAt, taken-at, slots-same, slots-set, word-in, page-in, written-in, length-pages}
+use Rattle.psos_pages.proofs.Seen.{TakenAt, taken-at, slots-set, word-in, page-in, written-in}
 
 -- every page has 64 words
 pub words-long : {taken : List Bool} (s : Paging) → IsSound taken s.frames s.blocks → (q : ℕ) → length (words_of s q) ≡ 64

@@ -1,23 +1,21 @@
 -- Pages that go with their slot, and a slot that is taken.
-use Rattle.std.proofs.Common.{◌≡◌, ℕ, zero, suc, ◌+◌, ◌-◌, ◌*◌, ◌<◌, ◌≤◌, ◌/◌, ◌%◌, Bool, true, false, List, [], ◌∷◌, ◌++◌, ◌⊎◌, Option, Some, None, length, replicate, get_or, set, refl, sym, ap, ◌∙◌, inl, inr, arith, subst}
-use Rattle.std.proofs.lemmas.List.{length-set, get_or-set_same, get_or-set_other, get_or_past, set_past, length-replicate, get_or-replicate, replicate-append-replicate}
+use Rattle.std.proofs.Common.{◌≡◌, ℕ, zero, suc, ◌+◌, ◌-◌, ◌*◌, ◌<◌, ◌≤◌, ◌/◌, Bool, true, false, List, [], ◌∷◌, ◌++◌, ◌⊎◌, Option, Some, None, length, replicate, get_or, set, refl, sym, ap, ◌∙◌, inl, inr, arith, subst}
+use Rattle.std.proofs.lemmas.List.{length-set, get_or-set_same, get_or-set_other, get_or_past, set_past, length-replicate, replicate-append-replicate}
 use Rattle.std.proofs.lemmas.Option.{none-some, same_Some}
-use Rattle.std.proofs.lemmas.Bool.{cases_eq, cases_lt, false≢true, true≢false}
+use Rattle.std.proofs.lemmas.Bool.{cases_eq, cases_lt, false≢true}
 use Rattle.psos_store.specs.Slots.{least_free}
 use Rattle.psos_words.specs.declared.word.Word.{Word}
 use Rattle.psos_words.specs.declared.word.Word.TheVariants.{Data}
 use Rattle.psos_words.specs.Words.{zeros}
 use Rattle.psos_calls.specs.Language.Tests.{if_there}
-use Rattle.psos_calls.specs.Levels.Level7.{Pages, IsTaken, first_free}
-use Rattle.psos_pages.specs.Frames.{Frame, Paging, frame_at, frame_of, block_words, words_of, without_page, forgotten, dropped}
-use Rattle.psos_pages.specs.Kept.{FramesState, IsOne}
-use Rattle.psos_pages.specs.State.{IsSound, IsPaged, AreStored, paging_of, blocks_of, slots_of, slots_from, pages_from, slot_with, without, without_pages}
-use Rattle.psos_pages.proofs.Machine.{FoundAt, found-at, not-found, no-frame, words-out, sound-empty, sound-less, words-stay, Stays, after-set, AfterSet, block-apart, in-empty, out-empty}
-use Rattle.psos_pages.proofs.Machine.AfterSet.{Here, Apart}
+use Rattle.psos_pages.specs.Frames.{Frame, Paging, frame_of, block_words, words_of, without_page, forgotten, dropped}
+use Rattle.psos_pages.specs.Kept.{FramesState}
+use Rattle.psos_pages.specs.State.{IsSound, IsPaged, AreStored, paging_of, blocks_of, slots_of, slots_from, pages_from, without, without_pages}
+use Rattle.psos_pages.proofs.Machine.{found-at, not-found, no-frame, words-out, sound-empty, sound-less, words-stay, Stays, block-apart, in-empty, out-empty}
 use Rattle.psos_pages.proofs.Machine.Stays.{Framed, Stored}
-use Rattle.psos_pages.proofs.Stored.{get_or-blocks, length-blocks, blocks-set, stored-less}
+use Rattle.psos_pages.proofs.Stored.{blocks-set, stored-less}
 use Rattle.psos_pages.proofs.Room.{same-paging}
-use Rattle.psos_pages.proofs.Seen.{TakenAt, taken-at, slots-set, length-slots, first_free-slots}
+use Rattle.psos_pages.proofs.Seen.{slots-set}
 
 -- ---- a page is forgotten
 

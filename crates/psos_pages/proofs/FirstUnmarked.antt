@@ -1,10 +1,10 @@
 -- The hand stops at the first frame that is not marked used.
-use Rattle.std.proofs.Common.{◌≡◌, ℕ, zero, suc, ◌+◌, ◌<◌, ◌≤◌, Bool, true, false, List, [], ◌∷◌, ◌⊎◌, Option, Some, None, length, get_or, set, refl, sym, ap, ◌∙◌, inl, inr, arith, if◌then◌else◌, ◌==◌}
+use Rattle.std.proofs.Common.{◌≡◌, ℕ, zero, suc, ◌+◌, ◌<◌, ◌≤◌, Bool, true, false, List, ◌⊎◌, Option, Some, None, length, refl, sym, ap, ◌∙◌, inl, inr, arith, if◌then◌else◌, ◌==◌}
 use Rattle.std.proofs.lemmas.List.{length-set, get_or-set_same, get_or-set_other}
-use Rattle.std.proofs.lemmas.Bool.{cases_eq, false≢true, eqb-true, eqb-false}
+use Rattle.std.proofs.lemmas.Bool.{false≢true, eqb-true}
 use Rattle.std.specs.Prelude.{option_map}
-use Rattle.psos_pages.specs.Frames.{Frame, Paging, frame_at, next_frame, is_used, unmarked, at_frame, swept, chosen}
-use Rattle.psos_pages.specs.SecondChance.{StandsAfter, IsSecondChance, SecondChance}
+use Rattle.psos_pages.specs.Frames.{Frame, frame_at, next_frame, is_used, unmarked, at_frame, swept}
+use Rattle.psos_pages.specs.SecondChance.{StandsAfter, SecondChance}
 use Rattle.psos_pages.proofs.Keeps.{next-below}
 
 -- what at most n looks find

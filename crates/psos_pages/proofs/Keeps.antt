@@ -1,18 +1,17 @@
 -- What each step of the machine of frames keeps: the words of all pages.
-use Rattle.std.proofs.Common.{◌≡◌, ℕ, zero, suc, ◌+◌, ◌*◌, ◌<◌, ◌≤◌, ◌/◌, Bool, true, false, not, List, [], ◌∷◌, ◌⊎◌, Option, Some, None, length, get_or, set, refl, sym, ap, ◌∙◌, inl, inr, arith, subst, if◌then◌else◌, nat_lt, ◌==◌}
-use Rattle.std.proofs.lemmas.List.{length-set, get_or-set_same, get_or-set_other, get_or_past}
-use Rattle.std.proofs.lemmas.Option.{none-some, same_Some}
-use Rattle.std.proofs.lemmas.Bool.{cases_eq, cases_lt, cases_Bool, false≢true, ltb-true, ltb-false, lt-ltb, le-ltb, eqb-true, eqb-false}
+use Rattle.std.proofs.Common.{◌≡◌, ℕ, zero, suc, ◌+◌, ◌<◌, ◌≤◌, ◌/◌, Bool, true, false, List, [], ◌∷◌, ◌⊎◌, Option, Some, None, length, get_or, set, refl, sym, ap, ◌∙◌, inl, inr, arith, if◌then◌else◌, ◌==◌}
+use Rattle.std.proofs.lemmas.List.{length-set, get_or-set_same, get_or_past}
+use Rattle.std.proofs.lemmas.Option.{none-some}
+use Rattle.std.proofs.lemmas.Bool.{cases_lt, false≢true, eqb-false}
 use Rattle.std.specs.Prelude.{option_map, is_some}
 use Rattle.psos_words.specs.declared.word.Word.{Word}
 use Rattle.psos_words.specs.Words.{zeros}
 use Rattle.psos_calls.specs.Language.Tests.{if_there}
-use Rattle.psos_pages.specs.Frames.{Frame, Paging, frame_at, frame_of, free_frame, frame_words, block_words, words_of, next_frame, is_used, unmarked, at_frame, swept, saved, page_in, evicted, has_free, chosen, with_room, filled, is_changed, writes}
-use Rattle.psos_pages.specs.Kept.{IsOne, IsHeld}
+use Rattle.psos_pages.specs.Frames.{Frame, Paging, frame_at, free_frame, words_of, next_frame, is_used, unmarked, at_frame, swept, saved, evicted}
+use Rattle.psos_pages.specs.Kept.{IsHeld}
 use Rattle.psos_pages.specs.State.{IsSound}
-use Rattle.psos_pages.proofs.Columns.{free-length, before-free, free-one, free-none}
-use Rattle.psos_pages.proofs.Machine.{sound-put, words-marked, sound-empty, sound-saved, words-emptied, sound-filled, words-filled, sound-less, words-less, is-within, out-empty, not-found, no-frame, in-empty, block-apart, AfterSet, after-set}
-use Rattle.psos_pages.proofs.Machine.AfterSet.{Here, Apart}
+use Rattle.psos_pages.proofs.Columns.{before-free}
+use Rattle.psos_pages.proofs.Machine.{sound-put, words-marked, sound-empty, sound-saved, words-emptied, block-apart}
 
 -- another state with the same words
 pub record Keeps (taken : List Bool) (s t : Paging) : Type 0 where

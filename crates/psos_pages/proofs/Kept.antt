@@ -1,14 +1,15 @@
 -- The columns of frames and the table of pages, read and changed.
-use Rattle.std.proofs.Common.{◌≡◌, ℕ, zero, suc, ◌+◌, ◌-◌, ◌<◌, ◌≤◌, Bool, true, false, List, [], ◌∷◌, ◌++◌, ◌⊎◌, Option, Some, None, length, replicate, get_or, set, refl, sym, ap, ◌∙◌, inl, inr, arith, subst}
-use Rattle.std.proofs.lemmas.List.{length-set, get_or_read, get_or_past, get_or-set_same, get_or-set_other, get_or-replicate, length-replicate, set_past, length_push, get_or_default}
+use Rattle.std.proofs.Common.{◌≡◌, ℕ, zero, suc, ◌+◌, ◌-◌, ◌<◌, ◌≤◌, Bool, true, false, List, [], ◌⊎◌, Option, Some, None, length, replicate, get_or, set, refl, sym, ap, ◌∙◌, inl, inr, arith, subst}
+use Rattle.std.proofs.lemmas.List.{length-set, get_or_read, get_or-set_same, get_or-set_other, get_or-replicate, length-replicate, length_push}
 use Rattle.std.proofs.lemmas.Option.{none-some, same_Some}
-use Rattle.std.proofs.lemmas.Bool.{cases_eq, cases_lt, eq-eqb, ne_eqb, eqb-true, false≢true}
+use Rattle.std.proofs.lemmas.Bool.{cases_eq, cases_lt, ne_eqb, false≢true}
 use Rattle.std.specs.Prelude.{is_some, option_map, if◌then◌else◌, min, ◌==◌}
 use Rattle.psos_words.specs.declared.word.Word.{Word}
+use Rattle.psos_words.specs.Words.{zeros}
 use Rattle.psos_pages.specs.declared.held.Held.{Held}
 use Rattle.psos_pages.specs.Frames.{Frame, frame_at, free_frame, frame_of, frame_words, holds, is_used, swept, at_frame, unmarked, next_frame}
-use Rattle.psos_pages.specs.Kept.{frame_with, frames_of, IsOne, IsTable, IsKept, IsHeld, FramesState}
-use Rattle.psos_pages.proofs.Columns.{length-frames, frames-none, get_or-frames, frames-held, frames-put, frames-push, frame_of-set, free-length, free_le, free-held, free-filled, free-emptied, free-none, before-free}
+use Rattle.psos_pages.specs.Kept.{frame_with, frames_of, IsReached, IsOne, IsTable, IsKept, IsHeld, FramesState}
+use Rattle.psos_pages.proofs.Columns.{length-frames, frames-none, get_or-frames, frames-held, frames-put, frames-longer, frame_of-set, free-length, free_le, free-held, free-filled, free-emptied, free-none, before-free}
 use Rattle.psos_pages.proofs.Machine.{FoundAt, found-at, AfterSet, after-set, is-within, not-found, no-frame, frame-of}
 use Rattle.psos_pages.proofs.Machine.AfterSet.{Here, Apart}
 
@@ -317,6 +318,37 @@ module _ {held : List (Option Held)} {words : List (List Word)} {at : List (Opti
           let wrong : length words < length words = k.there (length words) (some (get_or held (length words) None) (get_or words (length words) []) (ap (λ (o : Option Frame). is_some o) (sym (get_or-frames held words (length words))) ∙ seen)) in
           absurd (omega (arith, wrong))
 
+  pub words-reach : (i : ℕ) → i ≡ free_frame (frames_of held words) → i ≤ length words
+  words-reach i e = by (cases_lt i (length words))
+    where
+      by : (i < length words) ⊎ (length words ≤ i) → i ≤ length words
+      by (inl h) = omega (arith, h)
+      by (inr h) = omega (arith, next-words i e h)
+
+  -- a frame gets words, which are not seen
+  unseen : get_or held (length words) None ≡ None
+  unseen = by (get_or held (length words) None) refl
+    where
+      by : (o : Option Held) → get_or held (length words) None ≡ o → get_or held (length words) None ≡ None
+      by None e = e
+      by (Some x) e =
+          let wrong : length words < length words = k.there (length words) (ap (λ (o : Option Held). is_some o) e) in
+          absurd (omega (arith, wrong))
+
+  pub reached : (new : List (List Word)) → IsReached words new → (frames_of held new ≡ frames_of held words) × IsKept held new at stored hand first
+  reached new (inl e) = (ap (frames_of held) e, subst (λ w. IsKept held w at stored hand first) (sym e) k)
+  reached new (inr e) =
+      let same = frames-longer held words (zeros 64) unseen in (
+        ap (frames_of held) e ∙ same,
+        subst (λ w. IsKept held w at stored hand first) (sym e) (record {
+          few = k.few;
+          stands = k.stands;
+          marks = k.marks;
+          there = λ j s. omega (arith, k.there j s, length_push words (zeros 64));
+          kept = subst (λ f. IsTable f at first) (sym same) k.kept;
+        }),
+      )
+
   module _ (i : ℕ) (to : Held) (these : List Word) (free : i ≡ free_frame (frames_of held words)) (within : i < length held) (away : frame_of (frames_of held words) to.page ≡ None) (b : to.page < 4168) where
     empty-here : get_or (frames_of held words) i None ≡ None
     empty-here = ap (λ n. get_or (frames_of held words) n None) free ∙ free-none (frames_of held words) (omega (arith, sym free, within, length-frames held words))
@@ -340,11 +372,16 @@ module _ {held : List (Option Held)} {words : List (List Word)} {at : List (Opti
       kept = subst (λ s. IsTable s (set at to.page (Some i)) first) (sym (frames-put held words i (Some to) these l)) table-here;
     }
 
-    pub kept-pushed : i ≡ length words → IsKept (set held i (Some to)) (words ++ these ∷ []) (set at to.page (Some i)) stored hand first
-    kept-pushed e = record {
-      few = omega (arith, length-set held i (Some to), k.few);
-      stands = omega (arith, length-set held i (Some to), k.stands);
-      marks = k.marks;
-      there = λ j s. there-here (length (words ++ these ∷ [])) (omega (arith, length_push words these)) (omega (arith, e, length_push words these)) j s;
-      kept = subst (λ s. IsTable s (set at to.page (Some i)) first) (sym (frames-push held words i (Some to) these e within)) table-here;
+-- a free frame, which was given words, is filled
+pub record FilledIn (held : List (Option Held)) (words new : List (List Word)) (at : List (Option ℕ)) (stored : List Bool) (hand first i : ℕ) (to : Held) (these : List Word) : Type 0 where
+  pub kept : IsKept (set held i (Some to)) (set new i these) (set at to.page (Some i)) stored hand first
+  pub frames : frames_of (set held i (Some to)) (set new i these) ≡ set (frames_of held words) i (Some (frame-page to these))
+
+pub filled-in : {held : List (Option Held)} {words : List (List Word)} {at : List (Option ℕ)} {stored : List Bool} {hand first : ℕ} → IsKept held words at stored hand first → (new : List (List Word)) → IsReached words new → (i : ℕ) (to : Held) (these : List Word)
+    → i ≡ free_frame (frames_of held words) → i < length held → frame_of (frames_of held words) to.page ≡ None → to.page < 4168 → i < length new → FilledIn held words new at stored hand first i to these
+filled-in {held} {words} k new longer i to these free within away b there =
+    let r = reached k new longer in
+    record {
+      kept = kept-filled r.1 i to these (free ∙ sym (ap free_frame r.0)) within (ap (λ s. frame_of s to.page) r.0 ∙ away) b there;
+      frames = frames-put held new i (Some to) these there ∙ ap (λ s. set s i (Some (frame-page to these))) r.0;
     }

@@ -1,6 +1,6 @@
 -- What the machine of frames keeps.
-use Rattle.std.proofs.Common.{◌≡◌, ◌≢◌, ℕ, zero, suc, ◌+◌, ◌*◌, ◌<◌, ◌≤◌, ◌/◌, Bool, true, false, List, [], ◌∷◌, ◌⊎◌, Option, Some, None, length, get_or, set, refl, sym, ap, ◌∙◌, inl, inr, arith, if◌then◌else◌, ◌==◌}
-use Rattle.std.proofs.lemmas.List.{length-set, get_or-set_same, get_or-set_other, set_past, get_or_past}
+use Rattle.std.proofs.Common.{◌≡◌, ℕ, zero, suc, ◌<◌, ◌≤◌, ◌/◌, Bool, true, false, List, [], ◌∷◌, ◌⊎◌, Option, Some, None, length, get_or, set, refl, sym, ap, ◌∙◌, inl, inr, if◌then◌else◌, ◌==◌}
+use Rattle.std.proofs.lemmas.List.{get_or-set_same, get_or-set_other, set_past, get_or_past}
 use Rattle.std.proofs.lemmas.Option.{none-some, same_Some}
 use Rattle.std.proofs.lemmas.Bool.{cases_eq, cases_lt, eqb-true, eqb-false}
 use Rattle.std.specs.Prelude.{option_map}
@@ -9,7 +9,7 @@ use Rattle.psos_words.specs.Words.{zeros}
 use Rattle.psos_calls.specs.Language.Tests.{if_there}
 use Rattle.psos_pages.specs.Kept.{IsOne}
 use Rattle.psos_pages.specs.State.{IsSound}
-use Rattle.psos_pages.specs.Frames.{Frame, Paging, frame_at, holds, frame_of, free_frame, frame_words, block_words, words_of}
+use Rattle.psos_pages.specs.Frames.{Frame, Paging, frame_at, frame_of, frame_words, block_words, words_of}
 
 -- ---- the frame of a page
 

@@ -1,15 +1,13 @@
 -- While frames are free and no page has a block, no call reads or writes one.
-use Rattle.std.proofs.Common.{◌≡◌, ℕ, zero, suc, ◌+◌, ◌<◌, ◌≤◌, Bool, true, false, not, ◌&&◌, ◌||◌, List, [], ◌∷◌, Option, Some, None, length, replicate, get_or, set, refl, sym, ap, ◌∙◌, arith, if◌then◌else◌}
-use Rattle.std.specs.Prelude.{option_map, is_some}
+use Rattle.std.proofs.Common.{◌≡◌, ℕ, zero, suc, ◌<◌, true, false, not, ◌&&◌, ◌||◌, List, [], ◌∷◌, Option, Some, None, length, replicate, get_or, set, refl, sym, ap, ◌∙◌, arith}
+use Rattle.std.specs.Prelude.{is_some}
 use Rattle.std.proofs.lemmas.Bool.{lt-ltb}
-use Rattle.std.proofs.lemmas.List.{get_or-replicate, get_or_past, length-replicate}
 use Rattle.psos_words.specs.declared.word.Word.{Word}
 use Rattle.psos_words.specs.Words.{zeros}
 use Rattle.psos_calls.specs.Language.Tests.{if_there}
-use Rattle.psos_calls.specs.Levels.Calls.{LevelCall}
 use Rattle.psos_calls.specs.declared.level_call.LevelCall.TheVariants.{PageTake, WordGet, WordPut, PageGet, FourPut}
 use Rattle.psos_calls.specs.Levels.Level7.{written}
-use Rattle.psos_pages.specs.Frames.{Frame, Paging, at_first, frame_at, frame_of, free_frame, at_frame, has_free, is_changed, chosen, with_room, filled, fetched, brought, accessed, looked_at, put_in, writes, reads, needs_store, paged, calls_store}
+use Rattle.psos_pages.specs.Frames.{Frame, Paging, at_first, frame_at, frame_of, free_frame, at_frame, is_changed, chosen, with_room, fetched, brought, accessed, looked_at, put_in, writes, reads, needs_store}
 use Rattle.psos_pages.specs.Quiet.{count_free, IsQuiet, StaysQuiet, QuietFrames}
 use Rattle.psos_pages.proofs.Room.{room-free}
 

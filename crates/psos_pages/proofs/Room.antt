@@ -1,15 +1,14 @@
 -- Room for a page: what holds of the frames after each step.
-use Rattle.std.proofs.Common.{◌≡◌, ℕ, zero, suc, ◌+◌, ◌<◌, ◌≤◌, Bool, true, false, List, [], ◌∷◌, ◌⊎◌, Option, Some, None, length, get_or, set, refl, sym, ap, ◌∙◌, inl, inr, arith, subst, if◌then◌else◌, ◌==◌}
+use Rattle.std.proofs.Common.{◌≡◌, ℕ, zero, suc, ◌<◌, ◌≤◌, Bool, true, false, List, Option, Some, None, length, get_or, set, refl, sym, ap, ◌∙◌, arith, subst, if◌then◌else◌, ◌==◌}
 use Rattle.std.proofs.lemmas.List.{length-set, get_or-set_same, get_or-set_other}
 use Rattle.std.specs.Prelude.{option_map, ◌/◌, not, ◌&&◌}
 use Rattle.std.proofs.lemmas.Option.{none-some, same_Some}
-use Rattle.std.proofs.lemmas.Bool.{cases_lt, false≢true, true≢false, le-ltb, lt-ltb}
+use Rattle.std.proofs.lemmas.Bool.{false≢true, le-ltb, lt-ltb}
 use Rattle.psos_words.specs.declared.word.Word.{Word}
-use Rattle.psos_calls.specs.Levels.Level7.{Pages}
-use Rattle.psos_pages.specs.Frames.{Frame, Paging, holds, unmarked, at_frame, is_used, block_words, filled, fetched, frame_at, frame_of, free_frame, words_of, next_frame, swept, saved, page_in, evicted, has_free, chosen, with_room, is_changed, writes}
+use Rattle.psos_pages.specs.Frames.{Frame, Paging, holds, unmarked, at_frame, is_used, block_words, filled, fetched, frame_at, frame_of, free_frame, next_frame, swept, saved, page_in, evicted, has_free, chosen, with_room, is_changed, writes}
 use Rattle.psos_pages.specs.Kept.{FramesState, IsHeld}
-use Rattle.psos_pages.specs.State.{IsSound, IsPaged, AreStored, paging_of, blocks_of, slots_of}
-use Rattle.psos_pages.proofs.Columns.{free-length, free-one, free-none, frame_of-set}
+use Rattle.psos_pages.specs.State.{IsSound, IsPaged, AreStored, paging_of, blocks_of}
+use Rattle.psos_pages.proofs.Columns.{free-one, free-none, frame_of-set}
 use Rattle.psos_pages.proofs.Machine.{sound-less, words-less, sound-filled, words-filled, frame-of, no-frame, not-found, AfterSet, after-set}
 use Rattle.psos_pages.proofs.Machine.AfterSet.{Here, Apart}
 use Rattle.psos_pages.proofs.Stored.{length-blocks}

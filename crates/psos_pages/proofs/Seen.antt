@@ -1,13 +1,13 @@
 -- The slots that the levels above see.
-use Rattle.std.proofs.Common.{◌≡◌, ℕ, zero, suc, ◌+◌, ◌-◌, ◌*◌, ◌<◌, ◌≤◌, ◌/◌, ◌%◌, Bool, true, false, List, [], ◌∷◌, ◌++◌, ◌⊎◌, Option, Some, None, length, replicate, take, drop, get_or, set, refl, sym, ap, ◌∙◌, inl, inr, arith, subst}
-use Rattle.std.proofs.lemmas.List.{length-append, length-set, get_or_append_left, get_or-append_right, take_at, drop_at, drop-drop, take-append-le, drop-append-le, set-append_left, set-append_right, replicate-append-replicate}
-use Rattle.std.proofs.lemmas.Option.{none-some, same_Some}
-use Rattle.std.proofs.lemmas.Bool.{cases_eq, cases_lt}
+use Rattle.std.proofs.Common.{◌≡◌, ℕ, zero, suc, ◌+◌, ◌-◌, ◌*◌, ◌<◌, ◌≤◌, Bool, true, false, List, [], ◌∷◌, ◌++◌, ◌⊎◌, None, length, take, drop, get_or, set, refl, sym, ap, ◌∙◌, inl, inr, arith}
+use Rattle.std.proofs.lemmas.List.{length-append, length-set, get_or_append_left, get_or-append_right, take_at, drop_at, drop-drop, set-append_left, set-append_right}
+use Rattle.std.proofs.lemmas.Option.{none-some}
+use Rattle.std.proofs.lemmas.Bool.{cases_lt}
 use Rattle.psos_store.specs.Slots.{least_free}
 use Rattle.psos_words.specs.declared.word.Word.{Word}
 use Rattle.psos_words.specs.declared.word.Word.TheVariants.{Data}
-use Rattle.psos_words.specs.Words.{zeros, word_at}
-use Rattle.psos_calls.specs.Levels.Level7.{Pages, IsTaken, first_free, slot_words, words_in, around, place_in_slot, page_words, written}
+use Rattle.psos_words.specs.Words.{word_at}
+use Rattle.psos_calls.specs.Levels.Level7.{IsTaken, first_free, slot_words, words_in, written}
 use Rattle.psos_pages.specs.Frames.{Paging, words_of}
 use Rattle.psos_pages.specs.State.{pages_from, slot_with, slots_from, slots_of}
 

@@ -1,6 +1,7 @@
 -- How frames are kept: what each holds, the words of each that was ever filled, and for each page its frame.
-use Rattle.std.specs.Prelude.{◌≡◌, ◌≤◌, ◌<◌, ℕ, Bool, true, false, List, [], ◌∷◌, Option, Some, None, length, is_some, slice_index_or}
+use Rattle.std.specs.Prelude.{◌≡◌, ◌≤◌, ◌<◌, ◌⊎◌, ◌++◌, ℕ, Bool, true, List, [], ◌∷◌, Option, Some, None, length, is_some, slice_index_or}
 use Rattle.psos_words.specs.declared.word.Word.{Word}
+use Rattle.psos_words.specs.Words.{zeros}
 use Rattle.psos_pages.specs.declared.held.Held.{Held}
 use Rattle.psos_pages.specs.Frames.{Frame, frame_at, frame_of, free_frame}
 
@@ -49,3 +50,7 @@ pub record IsKept (held : List (Option Held)) (words : List (List Word)) (at : L
 pub record IsHeld (frames : List (Option Frame)) (i : ℕ) : Type 0 where
   pub frame : Frame
   pub there : frame_at frames i ≡ Some frame
+
+-- the same words of frames, and those of one frame more, or not
+abbrev pub IsReached : List (List Word) → List (List Word) → Type 0
+IsReached before now = (now ≡ before) ⊎ (now ≡ before ++ zeros 64 ∷ [])

@@ -1,7 +1,9 @@
 -- The state of level 7 over its backing store: frames, blocks, and the words that the levels above see. States docs/levels.md, "Pages and slots".
-use Rattle.std.specs.Prelude.{◌≡◌, ◌≤◌, ◌<◌, ℕ, zero, suc, ◌+◌, ◌*◌, ◌/◌, Bool, true, false, List, [], ◌∷◌, ◌++◌, Option, Some, None, length, is_some, slice_index_or, slice_set}
+use Rattle.std.specs.Prelude.{◌≡◌, ◌≤◌, ◌<◌, ℕ, zero, suc, ◌+◌, ◌/◌, Bool, true, false, List, [], ◌∷◌, ◌++◌, Option, Some, None, length, is_some, slice_index_or, slice_set}
 use Rattle.psos_words.specs.declared.word.Word.{Word}
+use Rattle.psos_words.specs.Words.{zeros}
 use Rattle.psos_words.specs.Block.{page_of}
+use Rattle.psos_calls.specs.Language.Tests.{if_there}
 use Rattle.psos_calls.specs.Levels.Level7.{Pages, IsTaken, page_words}
 use Rattle.psos_pages.specs.Frames.{Frame, Paging, frame_at, words_of, block_words, without_page}
 use Rattle.psos_pages.specs.Kept.{FramesState, IsOne}
@@ -24,6 +26,10 @@ slots_from page (t ∷ taken) s = slot_with t (pages_from 8 s page) ∷ slots_fr
 abbrev pub slots_of : List Bool → Paging → Pages
 slots_of taken s = slots_from 0 taken s
 
+-- the words that a block reads as; data 0 where it is no page
+abbrev pub read_from : List ℕ → List Word
+read_from bytes = if_there (page_of bytes) (zeros 64) (λ words. words)
+
 -- a page's block, by its bytes
 abbrev pub block_if : Bool → List ℕ → Option (List Word)
 block_if false bytes = None
@@ -34,6 +40,10 @@ abbrev pub blocks_of : List Bool → List (List ℕ) → List (Option (List Word
 blocks_of [] bytes = []
 blocks_of (s ∷ stored) [] = block_if s [] ∷ blocks_of stored []
 blocks_of (s ∷ stored) (b ∷ bytes) = block_if s b ∷ blocks_of stored bytes
+
+-- the words of a page's block, or data 0 where it has none
+abbrev pub words_stored : FramesState → List (List ℕ) → ℕ → List Word
+words_stored f bytes page = block_words (blocks_of f.stored bytes) page
 
 abbrev pub paging_of : FramesState → List (List ℕ) → Paging
 paging_of f bytes = record { frames = f.frames; hand = f.hand; blocks = blocks_of f.stored bytes }

@@ -1,9 +1,11 @@
 // The frames.
-ghost use Rattle.std.specs.Prelude.{◌≡◌, ◌≤◌, ◌<◌, false, true, Some, None, replicate, length, slice_set, slice_index_or, IfOk, IfSome, IsNone, is_some, ◌↔◌};
-ghost use Rattle.psos_words.specs.Words.{word_at};
+ghost use Rattle.std.specs.Prelude.{◌≡◌, ◌≤◌, ◌<◌, false, true, Some, None, replicate, length, slice_set, slice_index_or, vec_capacity, IfOk, IfSome, IsNone, is_some, ◌↔◌};
+ghost use Rattle.psos_words.specs.Words.{word_at, zeros};
+ghost use Rattle.psos_words.specs.Block.{page_of};
 ghost use Rattle.psos_calls.specs.Levels.Level7.{written};
 ghost use Rattle.psos_pages.specs.Frames.{frame_at, at_frame, frame_of, free_frame, frame_words, next_frame, is_used, is_changed, unmarked, looked_at, put_in, put_at, four_at, new_frame, swept, without_page, page_in};
-ghost use Rattle.psos_pages.specs.Kept.{IsHeld, at_hand};
+ghost use Rattle.psos_pages.specs.Kept.{IsHeld, IsReached, at_hand};
+ghost use Rattle.psos_pages.specs.State.{read_from};
 
 use crate::held::Held;
 use psos_words::{Page, Word};
@@ -288,29 +290,63 @@ impl Frames {
         }
     }
 
-    /// Puts a page into the least free frame, as it lies in its block.
-    pub fn fill(&mut self, frame: u8, page: u16, words: Page)
+    /// Puts a page into the least free frame, all its words data 0.
+    #[inline(never)]
+    pub fn fill_zero(&mut self, frame: u8, page: u16)
         requires free { frame ≡ free_frame self.old.frames }
         requires within { frame < length self.old.frames }
         requires page { page < 4168 }
         requires away { frame_of self.old.frames page ≡ None }
-        ensures frames { self.new.frames ≡ slice_set self.old.frames frame (Some (new_frame page words)) }
+        ensures frames { self.new.frames ≡ slice_set self.old.frames frame (Some (new_frame page (zeros 64))) }
         ensures hand { self.new.hand ≡ self.old.hand }
         ensures stored { self.new.stored ≡ self.old.stored }
     {
         let i = frame as usize;
+        reach(&mut self.words, i);
+        self.words[i] = Page::zero();
         self.held[i] = Some(Held {
             page,
             used: true,
             changed: false,
         });
         self.at[page as usize] = Some(frame);
-        if i < self.words.len() {
-            self.words[i] = words;
-        } else {
-            self.words.push_reserved(words);
-        }
     }
+
+    /// Puts a page into the least free frame, as it lies in its block. It is read into the frame's own words.
+    pub fn fill_from(&mut self, frame: u8, page: u16, block: &[u8; 1032])
+        requires free { frame ≡ free_frame self.old.frames }
+        requires within { frame < length self.old.frames }
+        requires page { page < 4168 }
+        requires away { frame_of self.old.frames page ≡ None }
+        requires is_page { is_some (page_of block.now) ≡ true }
+        ensures frames { self.new.frames ≡ slice_set self.old.frames frame (Some (new_frame page (read_from block.now))) }
+        ensures hand { self.new.hand ≡ self.old.hand }
+        ensures stored { self.new.stored ≡ self.old.stored }
+    {
+        let i = frame as usize;
+        reach(&mut self.words, i);
+        let _is_page = self.words[i].read_block(block);
+        self.held[i] = Some(Held {
+            page,
+            used: true,
+            changed: false,
+        });
+        self.at[page as usize] = Some(frame);
+    }
+}
+
+// Makes sure that a frame has words.
+fn reach(words: &mut Vec<Page>, frame: usize)
+    requires next { frame ≤ length words.old.items }
+    requires room { frame < vec_capacity words.old }
+    ensures there { frame < length words.new.items }
+    ensures longer { IsReached words.old.items words.new.items }
+    ensures room { vec_capacity words.new ≡ vec_capacity words.old }
+{
+    if frame < words.len() {
+        return;
+    }
+    words.push_reserved(Page::zero());
 }
 
 // Writes four words over others.

@@ -50,10 +50,9 @@ impl<B: Store> Pages<B> {
         let Ok(frame) = self.room() else {
             return Err(LevelFault::Store);
         };
-        let Ok(words) = load(&self.frames, &mut self.store, page) else {
+        let Ok(()) = load(&mut self.frames, &mut self.store, frame, page) else {
             return Err(LevelFault::Store);
         };
-        self.frames.fill(frame, page, words);
         Ok(frame)
     }
 

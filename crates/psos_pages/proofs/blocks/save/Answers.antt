@@ -1,7 +1,7 @@
-use Rattle.std.proofs.Common.{◌≡◌, ◌<◌, ◌∙◌, refl, sym, ap, arith, List, Option, get_or, set, length, subst, false, true, [], None, Some}
+use Rattle.std.proofs.Common.{◌≡◌, ◌<◌, ◌∙◌, sym, ap, arith, set, length, subst, false, true, None, Some}
 use Rattle.psos_io.specs.Blocks.{block_at}
 use Rattle.psos_words.specs.Block.{page_of}
-use Rattle.psos_pages.specs.Frames.{frame_at, frame_words, is_changed}
+use Rattle.psos_pages.specs.Frames.{frame_at, frame_words}
 use Rattle.psos_pages.specs.State.{blocks_of, AreStored}
 use Rattle.psos_pages.proofs.Stored.{blocks-less, blocks-written, stored-less, stored-more, saved-changed, saved-clean}
 use Rattle.psos_pages.proofs.blocks.save.Goals as goal

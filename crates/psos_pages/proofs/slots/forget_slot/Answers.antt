@@ -1,4 +1,4 @@
-use Rattle.std.proofs.Common.{◌≡◌, ℕ, ◌+◌, ◌-◌, ◌*◌, ◌∙◌, sym, ap, arith}
+use Rattle.std.proofs.Common.{◌≡◌, ◌+◌, ◌-◌, ◌*◌, ◌∙◌, sym, ap, arith}
 use Rattle.psos_pages.specs.State.{without_pages}
 use Rattle.psos_pages.proofs.Dropped.{without-more}
 use Rattle.psos_pages.proofs.slots.forget_slot.Goals as goal

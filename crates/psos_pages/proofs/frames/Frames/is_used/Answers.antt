@@ -1,4 +1,4 @@
-use Rattle.std.proofs.Common.{◌≡◌, Bool, false, sym, ap, ◌∙◌, subst, get_or, []}
+use Rattle.std.proofs.Common.{◌≡◌, false, sym, ap, ◌∙◌, subst, get_or, []}
 use Rattle.psos_pages.specs.Frames.{frame_at, is_used}
 use Rattle.psos_pages.specs.Kept.{frame_with}
 use Rattle.psos_pages.proofs.Kept.{read-held}

@@ -1,4 +1,4 @@
-use Rattle.std.proofs.Common.{◌≡◌, ◌≤◌, ◌∙◌, sym, ap, subst, arith}
+use Rattle.std.proofs.Common.{◌∙◌, sym, ap, arith}
 use Rattle.psos_pages.specs.Frames.{free_frame}
 use Rattle.psos_pages.proofs.Kept.{held-more, free-here, free-past}
 use Rattle.psos_pages.proofs.frames.Frames.least.Goals as goal

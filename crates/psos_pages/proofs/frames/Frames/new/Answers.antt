@@ -1,6 +1,5 @@
-use Rattle.std.proofs.Common.{◌≡◌, ◌≤◌, ◌∙◌, sym, ap, length, subst, arith, rules, replicate, Option, None, false}
+use Rattle.std.proofs.Common.{◌≡◌, ap, length, arith, rules, replicate, Option, None, false}
 use Rattle.psos_pages.specs.declared.held.Held.{Held}
-use Rattle.psos_pages.specs.Kept.{IsKept, frames_of}
 use Rattle.psos_pages.proofs.Kept.{kept-new}
 use Rattle.psos_pages.proofs.Columns.{frames-none}
 use Rattle.std.proofs.lemmas.List.{length-replicate}

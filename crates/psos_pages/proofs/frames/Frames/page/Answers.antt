@@ -1,4 +1,4 @@
-use Rattle.std.proofs.Common.{◌≡◌, arith}
+use Rattle.std.proofs.Common.{arith}
 use Rattle.psos_pages.proofs.Kept.{held-some, read-words}
 use Rattle.psos_pages.proofs.frames.Frames.page.Goals as goal
 

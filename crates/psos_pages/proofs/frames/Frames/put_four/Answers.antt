@@ -1,14 +1,12 @@
-use Rattle.std.proofs.Common.{true≢false, not, ◌≡◌, ◌<◌, ◌≤◌, ◌+◌, ◌∙◌, refl, sym, ap, subst, arith, length, get_or, set, List, [], true, false, Option, Some, None}
-use Rattle.std.specs.Prelude.{is_some, option_map, slice_set, min}
-use Rattle.std.proofs.lemmas.Bool.{not-true, not-false}
+use Rattle.std.proofs.Common.{◌≡◌, ◌<◌, ◌∙◌, refl, ap, arith, length, get_or, set, List, [], true, Option, Some, None}
+use Rattle.std.specs.Prelude.{is_some}
 use Rattle.std.proofs.lemmas.List.{length-set, get_or_read}
 use Rattle.psos_words.specs.declared.word.Word.{Word}
 use Rattle.psos_calls.specs.Levels.Level7.{written}
 use Rattle.psos_pages.specs.declared.held.Held.{Held}
-use Rattle.psos_pages.specs.Frames.{Frame, frame_at, at_frame, looked_at, unmarked, put_in, next_frame, frame_words, is_changed, swept, is_used, page_in}
-use Rattle.psos_pages.specs.Kept.{IsHeld, frames_of, frame_with}
-use Rattle.psos_pages.proofs.Columns.{length-frames}
-use Rattle.psos_pages.proofs.Kept.{within-held, never-free, here-held, kept-marked, kept-changed, kept-hand, kept-emptied, kept-filled, kept-pushed, kept-first, kept-stored, found-held, next-words, count-here, frames-marked, frames-changed, read-held}
+use Rattle.psos_pages.specs.Frames.{at_frame, put_in}
+use Rattle.psos_pages.specs.Kept.{frames_of}
+use Rattle.psos_pages.proofs.Kept.{within-held, never-free, here-held, kept-changed, frames-changed}
 use Rattle.psos_pages.proofs.frames.Frames.put_four.Goals as goal
 
 pub index-requires : goal.index-requires

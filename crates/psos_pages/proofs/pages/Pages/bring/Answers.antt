@@ -1,11 +1,7 @@
-use Rattle.std.proofs.Common.{◌≡◌, ◌<◌, ◌≤◌, ◌/◌, ◌+◌, ◌∙◌, refl, sym, ap, arith, List, ◌∷◌, Option, Bool, ℕ, get_or, set, length, replicate, subst, false, true, [], None, Some}
-use Rattle.std.proofs.lemmas.List.{length-set}
-use Rattle.psos_words.specs.declared.word.Word.{Word}
-use Rattle.psos_words.specs.Words.{word_at}
-use Rattle.psos_calls.specs.Levels.Level7.{Pages, IsTaken, around, place_in_slot, page_words, with_words, written}
-use Rattle.psos_pages.specs.Frames.{Frame, Paging, frame_of}
-use Rattle.psos_pages.specs.State.{paging_of, slots_of}
-use Rattle.psos_pages.proofs.Access.{Looked, Changed, looked-here, changed-here, held-there, words-there, words-long, seen-word, seen-page, seen-written, length-written}
+use Rattle.std.proofs.Common.{◌∙◌, refl, ap, List, Option, ℕ}
+use Rattle.psos_pages.specs.Frames.{Frame, frame_of}
+use Rattle.psos_pages.specs.State.{paging_of}
+use Rattle.psos_pages.proofs.Access.{looked-here, held-there}
 use Rattle.std.specs.Prelude.{is_some}
 use Rattle.psos_pages.specs.Frames.{looked_at}
 use Rattle.psos_pages.proofs.Room.{at_frame-found}

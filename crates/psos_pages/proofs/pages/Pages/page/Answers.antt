@@ -1,8 +1,5 @@
-use Rattle.std.proofs.Common.{◌≡◌, ◌/◌, ◌∙◌, Option, ℕ, refl, sym, ap, subst, false, true, None, Some}
-use Rattle.std.specs.Prelude.{is_some}
-use Rattle.std.proofs.lemmas.Bool.{false≢true}
+use Rattle.std.proofs.Common.{◌≡◌, ◌/◌, ◌∙◌, sym, ap, subst}
 use Rattle.psos_calls.specs.Levels.Level7.{IsTaken, page_words}
-use Rattle.psos_pages.specs.Frames.{frame_of, IsResident}
 use Rattle.psos_pages.specs.State.{paging_of, slots_of}
 use Rattle.psos_pages.proofs.Keeps.{page-below}
 use Rattle.psos_pages.proofs.Seen.{taken-at}

@@ -1,10 +1,8 @@
-use Rattle.std.proofs.Common.{◌≡◌, ◌<◌, ◌≤◌, ◌/◌, ◌∙◌, refl, sym, ap, arith, List, Option, Bool, ℕ, get_or, set, length, replicate, subst, false, true, [], None, Some}
-use Rattle.psos_calls.specs.Levels.Level7.{Pages, IsTaken}
-use Rattle.psos_pages.specs.Frames.{Frame, Paging, free_frame, frame_of, with_room, block_words}
-use Rattle.psos_pages.specs.State.{paging_of, blocks_of, slots_of, IsPaged}
+use Rattle.std.proofs.Common.{◌/◌, sym, ap, subst}
+use Rattle.psos_calls.specs.Levels.Level7.{IsTaken}
+use Rattle.psos_pages.specs.State.{paging_of}
 use Rattle.psos_pages.proofs.Keeps.{page-below}
-use Rattle.psos_pages.proofs.Room.{Fetched, fetched-here, room-away}
-use Rattle.psos_pages.proofs.Seen.{taken-at, slots-same}
+use Rattle.psos_pages.proofs.Seen.{taken-at}
 use Rattle.psos_pages.proofs.pages.Pages.reach.Goals as goal
 
 pub frame_of-requires : goal.frame_of-requires

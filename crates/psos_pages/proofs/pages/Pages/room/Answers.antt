@@ -1,10 +1,8 @@
-use Rattle.std.proofs.Common.{◌≡◌, ◌<◌, ◌≤◌, ◌∙◌, refl, sym, ap, arith, List, Option, Bool, ℕ, get_or, set, length, subst, false, true, [], None, Some}
-use Rattle.psos_calls.specs.Levels.Level7.{Pages}
-use Rattle.psos_pages.specs.Frames.{Frame, Paging, is_changed, frame_at, free_frame, with_room, writes, evicted, chosen, swept, next_frame}
-use Rattle.psos_pages.specs.Kept.{IsHeld, FramesState}
-use Rattle.psos_pages.specs.State.{paging_of, blocks_of, slots_of, IsPaged, AreStored}
-use Rattle.psos_pages.proofs.Room.{Chosen, Evicted, chosen-here, stays-here, evicted-here, paged-on, room-free, room-full, writes-here}
-use Rattle.psos_pages.proofs.Keeps.{Keeps}
+use Rattle.std.proofs.Common.{◌∙◌, refl, sym, ap, List, Option, Bool, set, length, subst, None}
+use Rattle.psos_pages.specs.Frames.{Frame, Paging, is_changed, frame_at, with_room, writes, swept, next_frame}
+use Rattle.psos_pages.specs.Kept.{FramesState}
+use Rattle.psos_pages.specs.State.{paging_of, blocks_of, AreStored}
+use Rattle.psos_pages.proofs.Room.{chosen-here, stays-here, evicted-here, paged-on, room-full, writes-here}
 use Rattle.psos_pages.proofs.Seen.{slots-same}
 use Rattle.psos_pages.proofs.pages.Pages.room.Goals as goal
 

@@ -1,11 +1,9 @@
-use Rattle.std.proofs.Common.{◌≡◌, ◌<◌, ◌≤◌, ◌/◌, ◌+◌, ◌∙◌, refl, sym, ap, arith, List, ◌∷◌, Option, Bool, ℕ, get_or, set, length, replicate, subst, false, true, [], None, Some}
-use Rattle.std.proofs.lemmas.List.{length-set}
-use Rattle.psos_words.specs.declared.word.Word.{Word}
+use Rattle.std.proofs.Common.{◌/◌, ◌∙◌, sym, ap, subst}
 use Rattle.psos_words.specs.Words.{word_at}
-use Rattle.psos_calls.specs.Levels.Level7.{Pages, IsTaken, around, place_in_slot, page_words, with_words, written}
-use Rattle.psos_pages.specs.Frames.{Frame, Paging, frame_of}
-use Rattle.psos_pages.specs.State.{paging_of, slots_of}
-use Rattle.psos_pages.proofs.Access.{Looked, Changed, looked-here, changed-here, held-there, words-there, words-long, seen-word, seen-page, seen-written, length-written}
+use Rattle.psos_calls.specs.Levels.Level7.{IsTaken, around, place_in_slot}
+use Rattle.psos_pages.specs.Frames.{frame_of}
+use Rattle.psos_pages.specs.State.{paging_of}
+use Rattle.psos_pages.proofs.Access.{looked-here, held-there, words-there, seen-word}
 use Rattle.psos_pages.proofs.Seen.{slots-same}
 use Rattle.psos_pages.proofs.pages.Pages.word.Goals as goal
 
