@@ -17,8 +17,9 @@ use limits::put_limits;
 use lines::put_lines;
 use origins::put_origins;
 use parts::next_part;
-use psos_io::{NoStore, StdSink, StdSource, put_all, read_all};
+use psos_io::{StdSink, StdSource, put_all, read_all};
 use psos_script::read_script;
+use psos_store::MemStore;
 use runs::{core_text, flat_text};
 use std::alloc::{AllocError, Global};
 use std::process::ExitCode;
@@ -50,7 +51,8 @@ fn put_both(alloc: Global, out: &mut Vec<u8>, text: &[u8]) -> Result<(), AllocEr
         psos_text::put_number(alloc, out, lines as u64)?;
         out.extend_from_slice(b" lines\n")?;
     }
-    let core = core_text(alloc, script, NoStore::new())?;
+    let store = MemStore::new(alloc, Vec::new(alloc))?;
+    let core = core_text(alloc, script, store)?;
     if core == flat {
         return out.extend_from_slice(b"the levels say the same\n");
     }

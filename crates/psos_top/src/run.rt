@@ -134,7 +134,7 @@ fn run_read<K: Sink, B: Store>(
 }
 
 /// A command: reads a script, runs it in the command's order, and prints the transcript (docs/program.md, "Commands").
-/// The number of frames has no effect today. It always returns.
+/// With more frames the store is called less; what is printed under status 0 is the same. It always returns.
 pub(crate) fn run<I: Source, K: Sink, B: Store>(
     alloc: Global,
     command: Command,

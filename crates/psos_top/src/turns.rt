@@ -12,7 +12,8 @@ use std::alloc::Global;
 /// The command `turns`: reads a script, runs it in turns that are drawn from the seed, and prints the
 /// transcript (docs/program.md, "Commands").
 ///
-/// The number of frames, 8 to 256, has no effect today. The call always returns.
+/// With more frames, from 8 to 256, the store is called less; what is printed under status 0 is the same. The call always
+/// returns.
 pub fn turns_call<I: Source, K: Sink, B: Store>(
     alloc: Global,
     frames: u16,
