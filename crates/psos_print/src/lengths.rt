@@ -4,6 +4,7 @@ ghost use Rattle.psos_text.specs.Name.{name_text};
 ghost use Rattle.psos_model.specs.Text.Transcript.{names_text, refusal_text, reply_text, place_text, line_text};
 ghost use Rattle.psos_print.specs.Line.{answered_in};
 
+use crate::name::text_of;
 use crate::refusal::{kind_word, right_word, tab_word};
 use itoa::Buffer;
 use psos_calls::{Line, Refusal, Reply};
@@ -21,7 +22,7 @@ fn name_len(name: Name) -> usize
     ensures value { result ≡ length (name_text name) }
     ensures few { result ≤ 16 }
 {
-    name.as_bytes().len()
+    text_of(&name).len()
 }
 
 fn names_len(names: &[Name]) -> usize

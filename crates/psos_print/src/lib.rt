@@ -5,9 +5,11 @@ mod done;
 mod fault;
 mod lengths;
 mod line;
+mod name;
 mod positions;
 mod refusal;
 mod reply;
+mod tail;
 mod transcript;
 
 pub use done::done_line;

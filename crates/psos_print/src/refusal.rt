@@ -1,10 +1,9 @@
 // Why a request was refused.
-ghost use Rattle.std.specs.Prelude.{◌≡◌, ◌≤◌, ◌++◌, length, OnOk};
+ghost use Rattle.std.specs.Prelude.{◌≡◌, ◌≤◌, ◌+◌, ◌++◌, length};
 ghost use Rattle.psos_model.specs.Text.Transcript.{kind_text, right_text, tab_text, refusal_text};
 
+use crate::tail::Tail;
 use psos_calls::{Kind, Refusal, Right, Tab};
-use psos_text::put_number;
-use std::alloc::{AllocError, Global};
 
 pub(crate) fn kind_word(kind: Kind) -> &'static [u8]
     ensures word { result.now ≡ kind_text kind }
@@ -57,43 +56,45 @@ pub(crate) fn tab_word(tab: Tab) -> &'static [u8]
 }
 
 #[tactic(auto, using(std::proofs::lemmas::List::append_assoc))]
-fn put_words(out: &mut Vec<u8>, first: &[u8], second: &[u8]) -> Result<(), AllocError>
-    ensures { OnOk result (out.new.items ≡ out.old.items ++ (first.now ++ second.now)) }
+fn prepend_words(line: &mut Tail, first: &[u8], second: &[u8])
+    requires { length line.old + (length first.now + length second.now) ≤ 128 }
+    ensures text { line.new ≡ (first.now ++ second.now) ++ line.old }
+    ensures few { length line.new ≡ length line.old + (length first.now + length second.now) }
 {
-    out.extend_from_slice(first)?;
-    out.extend_from_slice(second)
+    line.prepend(second);
+    line.prepend(first);
 }
 
 #[tactic(auto, using(std::proofs::lemmas::List::append_assoc))]
-fn put_guarded(alloc: Global, out: &mut Vec<u8>, bit: u8) -> Result<(), AllocError>
-    ensures { OnOk result (out.new.items ≡ out.old.items ++ refusal_text (Refusal.Guarded bit)) }
+fn prepend_guarded(line: &mut Tail, bit: u8)
+    requires { length line.old + 28 ≤ 128 }
+    ensures text { line.new ≡ refusal_text (Refusal.Guarded bit) ++ line.old }
+    ensures few { length line.new ≤ length line.old + 28 }
 {
-    out.extend_from_slice(b"guarded ")?;
-    put_number(alloc, out, u64::from(bit))
+    line.prepend_number(u64::from(bit));
+    line.prepend(b"guarded ");
 }
 
-pub(crate) fn put_refusal(
-    alloc: Global,
-    out: &mut Vec<u8>,
-    refusal: Refusal,
-) -> Result<(), AllocError>
-    ensures { OnOk result (out.new.items ≡ out.old.items ++ refusal_text refusal) }
+pub(crate) fn prepend_refusal(line: &mut Tail, refusal: Refusal)
+    requires { length line.old + 40 ≤ 128 }
+    ensures text { line.new ≡ refusal_text refusal ++ line.old }
+    ensures few { length line.new ≤ length line.old + 40 }
 {
     match refusal {
-        Refusal::Absent(kind) => put_words(out, b"absent ", kind_word(kind)),
-        Refusal::Lacks(right) => put_words(out, b"lacks ", right_word(right)),
-        Refusal::Guarded(bit) => put_guarded(alloc, out, bit),
-        Refusal::Exhausted(tab) => put_words(out, b"exhausted ", tab_word(tab)),
-        Refusal::NotCap => out.extend_from_slice(b"not cap"),
-        Refusal::NotData => out.extend_from_slice(b"not data"),
-        Refusal::Range => out.extend_from_slice(b"range"),
-        Refusal::NameTaken => out.extend_from_slice(b"name taken"),
-        Refusal::UnknownName => out.extend_from_slice(b"unknown name"),
-        Refusal::Distinguished => out.extend_from_slice(b"distinguished"),
-        Refusal::NotDistinguished => out.extend_from_slice(b"not distinguished"),
-        Refusal::NotEmpty => out.extend_from_slice(b"not empty"),
-        Refusal::Empty => out.extend_from_slice(b"empty"),
-        Refusal::WrongType => out.extend_from_slice(b"wrong type"),
-        Refusal::Overflow => out.extend_from_slice(b"overflow"),
+        Refusal::Absent(kind) => prepend_words(line, b"absent ", kind_word(kind)),
+        Refusal::Lacks(right) => prepend_words(line, b"lacks ", right_word(right)),
+        Refusal::Guarded(bit) => prepend_guarded(line, bit),
+        Refusal::Exhausted(tab) => prepend_words(line, b"exhausted ", tab_word(tab)),
+        Refusal::NotCap => line.prepend(b"not cap"),
+        Refusal::NotData => line.prepend(b"not data"),
+        Refusal::Range => line.prepend(b"range"),
+        Refusal::NameTaken => line.prepend(b"name taken"),
+        Refusal::UnknownName => line.prepend(b"unknown name"),
+        Refusal::Distinguished => line.prepend(b"distinguished"),
+        Refusal::NotDistinguished => line.prepend(b"not distinguished"),
+        Refusal::NotEmpty => line.prepend(b"not empty"),
+        Refusal::Empty => line.prepend(b"empty"),
+        Refusal::WrongType => line.prepend(b"wrong type"),
+        Refusal::Overflow => line.prepend(b"overflow"),
     }
 }

@@ -3,7 +3,6 @@ ghost use Rattle.std.specs.Prelude.{◌≡◌, ◌<◌, ◌≤◌, ◌^◌, ◌+
 ghost use Rattle.std.specs.List.{AllByRecursion};
 ghost use Rattle.std.specs.Io.KnownBytes.{Appends};
 ghost use Rattle.psos_io.specs.Bytes.{AppendsFront};
-ghost use Rattle.psos_text.specs.Name.{name_text};
 ghost use Rattle.psos_model.specs.Replay.{answered_of};
 ghost use Rattle.psos_model.specs.Text.Transcript.{line_text, users_lines};
 ghost use Rattle.psos_print.specs.Pieces.{HasPut, HasBegun, HasReason};
@@ -11,11 +10,11 @@ ghost use Rattle.psos_print.specs.Positions.{entries_text, lines_at, HasPosition
 
 use crate::fault::PrintFault;
 use crate::line::put_parts;
+use crate::name::text_of;
 use crate::positions::gather;
 use psos_calls::{Entry, Script, UserText};
 use psos_io::{Sink, put_all};
 use psos_journal::Entries;
-use psos_text::Name;
 use std::alloc::{AllocError, Global};
 
 // How many bytes wait at most before they are written, a last line aside.
@@ -38,20 +37,20 @@ fn write_piece<K: Sink>(piece: &mut Vec<u8>, out: &mut K) -> Result<(), PrintFau
 
 // The line of an entry behind the piece, which is written where it is full.
 fn put_entry<K: Sink>(
-    alloc: Global,
-    name: &Name,
+    name: &[u8],
     position: u32,
     entry: &Entry,
     piece: &mut Vec<u8>,
     out: &mut K,
 ) -> Result<(), PrintFault>
-    ensures ok { OnOk result (HasPut (K.took out.old) (K.took out.new) piece.old.items piece.new.items (line_text (name_text name.now) position (answered_of entry.now))) }
-    ensures err { OnErr result (HasBegun (K.took out.old) (K.took out.new) (piece.old.items ++ line_text (name_text name.now) position (answered_of entry.now))) }
+    requires { length name.now ≤ 16 }
+    ensures ok { OnOk result (HasPut (K.took out.old) (K.took out.new) piece.old.items piece.new.items (line_text name.now position (answered_of entry.now))) }
+    ensures err { OnErr result (HasBegun (K.took out.old) (K.took out.new) (piece.old.items ++ line_text name.now position (answered_of entry.now))) }
     ensures later { K.faults out.old ≤ K.faults out.new }
     ensures reason { IfErr result (HasReason (K.faults out.old) (K.faults out.new)) }
 {
     let stamp = u64::from(position);
-    if put_parts(alloc, piece, name, entry.n, entry.m, stamp, &entry.reply).is_err() {
+    if put_parts(piece, name, entry.n, entry.m, stamp, &entry.reply).is_err() {
         return Err(PrintFault::Memory(AllocError));
     }
     if piece.len() < PIECE {
@@ -62,35 +61,27 @@ fn put_entry<K: Sink>(
 
 // The lines of the entries at these positions.
 fn put_entries<K: Sink>(
-    alloc: Global,
-    name: &Name,
+    name: &[u8],
     positions: &[u32],
     entries: &[Entry],
     piece: &mut Vec<u8>,
     out: &mut K,
 ) -> Result<(), PrintFault>
-    requires { AllByRecursion (λ p. p < length entries.now) positions.now }
-    ensures ok { OnOk result (HasPut (K.took out.old) (K.took out.new) piece.old.items piece.new.items (lines_at (name_text name.now) entries.now positions.now)) }
-    ensures err { OnErr result (HasBegun (K.took out.old) (K.took out.new) (piece.old.items ++ lines_at (name_text name.now) entries.now positions.now)) }
+    requires name { length name.now ≤ 16 }
+    requires within { AllByRecursion (λ p. p < length entries.now) positions.now }
+    ensures ok { OnOk result (HasPut (K.took out.old) (K.took out.new) piece.old.items piece.new.items (lines_at name.now entries.now positions.now)) }
+    ensures err { OnErr result (HasBegun (K.took out.old) (K.took out.new) (piece.old.items ++ lines_at name.now entries.now positions.now)) }
     ensures later { K.faults out.old ≤ K.faults out.new }
     ensures reason { IfErr result (HasReason (K.faults out.old) (K.faults out.new)) }
 {
     'positions: for position in positions {
-        put_entry(
-            alloc,
-            name,
-            *position,
-            &entries[*position as usize],
-            piece,
-            out,
-        )?;
+        put_entry(name, *position, &entries[*position as usize], piece, out)?;
     }
     Ok(())
 }
 
 // The lines of each user, whose positions stand in the list of the same number.
 fn put_users<K: Sink>(
-    alloc: Global,
     users: &[UserText],
     lists: &[Vec<u32>],
     entries: &[Entry],
@@ -105,7 +96,7 @@ fn put_users<K: Sink>(
 {
     let mut u = 0usize;
     'users: for user in users {
-        put_entries(alloc, user.name(), &lists[u], entries, piece, out)?;
+        put_entries(text_of(user.name()), &lists[u], entries, piece, out)?;
         u += 1;
     }
     Ok(())
@@ -137,6 +128,6 @@ pub fn put_transcript<K: Sink>(
     let Ok(mut piece) = Vec::with_capacity(alloc, PIECE + 4096) else {
         return Err(PrintFault::Memory(AllocError));
     };
-    put_users(alloc, users, &lists, entries, &mut piece, out)?;
+    put_users(users, &lists, entries, &mut piece, out)?;
     write_piece(&mut piece, out)
 }

@@ -1,8 +1,0 @@
-use Rattle.std.proofs.Common.{◌≡◌, length, arith, ap}
-use Rattle.psos_print.proofs.TextSizes.{name_few}
-use Rattle.psos_print.proofs.lengths.name_len.Goals as goal
-
-pub returns-clause-few : goal.returns-clause-few
-returns-clause-few c =
-    let whole : length c.args.name.bytes ≡ 16 = grind arith in
-    omega (arith, ap length c.as_bytes.ensures, name_few c.args.name whole)
