@@ -1,3 +1,4 @@
+pub mod PhaseCounts
 pub mod PhaseRequests
 pub mod ScriptPhases
 pub mod SerialOrder

@@ -1,5 +1,5 @@
 -- Requests by phases.
-use Rattle.std.proofs.Common.{◌≡◌, ℕ, zero, suc, ◌+◌, ◌-◌, ◌<◌, ◌≤◌, Bool, true, false, cond, ltb, List, [], ◌∷◌, length, Option, Some, None, refl, sym, ap, ◌∙◌, ◌⊎◌, inl, inr, subst, arith}
+use Rattle.std.proofs.Common.{◌≡◌, ℕ, zero, suc, ◌+◌, ◌-◌, ◌<◌, ◌≤◌, Bool, true, false, cond, ltb, get_or, List, [], ◌∷◌, length, Option, Some, None, refl, sym, ap, ◌∙◌, ◌⊎◌, inl, inr, subst, arith}
 use Rattle.std.specs.Prelude.{option_map, sum_by}
 use Rattle.std.specs.List.{flat_map}
 use Rattle.std.proofs.lemmas.Bool.{le-ltb, ltb-false, cases_lt}
@@ -24,9 +24,16 @@ asked_few phases zero = omega arith
 asked_few [] (suc p) = omega arith
 asked_few (x ∷ xs) (suc p) = omega (arith, asked_few xs p, sum_by-cons (λ (p : List Request). length p + 1) x xs)
 
--- so they can be counted
-pub asked_fits : (x : List Request) (xs : List (List Request)) (p : ℕ) → sum_by (λ p. length p + 1) (x ∷ xs) ≤ 241 → length x + asked_before xs p ≤ 241
-asked_fits x xs p few = omega (arith, few, asked_few (x ∷ xs) (suc p))
+-- a phase more
+pub asked_more : (phases : List (List Request)) (p : ℕ) → asked_before phases (p + 1) ≡ asked_before phases p + length (get_or phases p [])
+asked_more [] zero = refl
+asked_more [] (suc p) =
+    let next : suc p + 1 ≡ suc (p + 1) = omega arith in
+    ap (asked_before []) next
+asked_more (x ∷ xs) zero = omega arith
+asked_more (x ∷ xs) (suc p) =
+    let next : suc p + 1 ≡ suc (p + 1) = omega arith in
+    omega (arith, ap (asked_before (x ∷ xs)) next, asked_more xs p)
 
 pub phases_few : (phases : List (List Request)) → length phases ≤ sum_by (λ p. length p + 1) phases
 phases_few [] = omega arith

@@ -1,8 +1,8 @@
 -- A serial run that is under way. States docs/promises.md, "Runs".
-use Rattle.std.specs.Prelude.{◌≡◌, ℕ, zero, suc, ◌+◌, ◌<◌, ◌≤◌, ◌||◌, true, if◌then◌else◌, nat_lt, List, [], ◌∷◌, length, slice_get, Option, Some, None, max}
+use Rattle.std.specs.Prelude.{◌≡◌, ℕ, zero, suc, ◌+◌, ◌<◌, ◌≤◌, ◌||◌, true, if◌then◌else◌, nat_lt, List, [], ◌∷◌, length, slice_get, slice_index_or, Option, Some, None, max}
 use Rattle.psos_calls.specs.declared.request.Request.{Request}
 use Rattle.psos_calls.specs.declared.entry.Entry.{Entry}
-use Rattle.psos_calls.specs.Language.Script.{Script, UserScript}
+use Rattle.psos_calls.specs.Language.Script.{Script, UserScript, user_script}
 use Rattle.psos_calls.specs.Language.User.{User, next_request}
 use Rattle.psos_model.specs.Flat.{Flat}
 use Rattle.psos_model.specs.Run.{phase_of, is_open}
@@ -19,6 +19,11 @@ abbrev pub asked_before : List (List Request) → ℕ → ℕ
 asked_before phases zero = 0
 asked_before [] (suc p) = 0
 asked_before (phase ∷ later) (suc p) = length phase + asked_before later p
+
+-- so many requests of each user stand before phase p, and of the users before u before the phase after it
+pub record AreCounted (s : Script) (p u : ℕ) (counts : List ℕ) : Type 0 where
+  pub behind : (v : ℕ) → v < u → v < length s.users → slice_index_or counts v 0 ≡ asked_before (user_script s v).phases (p + 1)
+  pub ahead : (v : ℕ) → u ≤ v → v < length s.users → slice_index_or counts v 0 ≡ asked_before (user_script s v).phases p
 
 -- what a user asks next, where a body is open, or not so many of its script requests are answered
 abbrev pub due : Script → User → ℕ → Option Request

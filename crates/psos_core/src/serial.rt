@@ -1,14 +1,13 @@
 // All requests of a script, in the serial order.
-ghost use Rattle.std.specs.Prelude.{◌≡◌, ◌≤◌, ◌<◌, ◌+◌, [], length, map, sum_by, OnOk};
-ghost use Rattle.psos_limits.specs.declared.TheConstants.{MOST_LINES};
-ghost use Rattle.psos_calls.specs.Language.Script.{IsWellFormed, user_script};
+ghost use Rattle.std.specs.Prelude.{◌≡◌, ◌<◌, ◌+◌, [], length, slice_index_or, OnOk};
+ghost use Rattle.psos_calls.specs.Language.Script.{user_script};
 ghost use Rattle.psos_model.specs.Run.{is_open};
 ghost use Rattle.psos_model.specs.Events.Serial.{IsCoreStart};
 ghost use Rattle.psos_model.specs.Run.SerialOrder.{IsSerialFrom};
 ghost use Rattle.psos_core.specs.System.{system_of};
 ghost use Rattle.psos_core.specs.Faults.{MayStop};
 ghost use Rattle.psos_core.specs.Serving.{Start, IsFrontFrom, AreSettledFrom, IsRunFrom};
-ghost use Rattle.psos_core.specs.UnderWay.{phases_most, asked_before, due, HasServed};
+ghost use Rattle.psos_core.specs.UnderWay.{phases_most, asked_before, due, AreCounted, HasServed};
 
 use crate::Levels;
 use crate::serve::serve;
@@ -28,28 +27,15 @@ fn phases_of(users: &[UserText]) -> usize
     most
 }
 
-// How many of a user's requests stand before phase p.
-fn asked_before(phases: &[Vec<Request>], p: usize) -> usize
-    requires few { sum_by (λ q. length q + 1) (map (λ q. q.items) phases.now) ≤ MOST_LINES + 1 }
-    ensures { result ≡ asked_before (map (λ q. q.items) phases.now) p }
+// How many of user u's requests stand in phase p.
+fn asked_in(script: &Script, p: usize, u: usize) -> usize
+    requires { u < length script.now.users }
+    ensures { result ≡ length (slice_index_or (user_script script.now u).phases p []) }
 {
-    if p == 0 {
-        return 0;
-    }
-    match phases.split_first() {
-        Some((phase, later)) => phase.len() + asked_before(later, p - 1),
+    match script.users()[u].phases().get(p) {
+        Some(phase) => phase.len(),
         None => 0,
     }
-}
-
-// How many of user u's requests stand in the phases up to p.
-fn asked_up_to(script: &Script, p: usize, u: usize) -> usize
-    requires script { IsWellFormed script.now }
-    requires user { u < length script.now.users }
-    requires phase { p < phases_most script.now.users }
-    ensures { result ≡ asked_before (user_script script.now u).phases (p + 1) }
-{
-    asked_before(script.users()[u].phases(), p + 1)
 }
 
 pub(crate) fn is_open(me: &Private) -> bool
@@ -68,7 +54,8 @@ fn due(script: &Script, me: &Private, count: usize) -> Option<Request>
     None
 }
 
-// Serves what is left to user u up to phase p, and the lines of the bodies that its requests open.
+// Serves what is left to user u up to phase p, which is so many requests in all, and the lines of the bodies that its
+// requests open.
 fn serve_user<B: Store>(
     alloc: Global,
     script: &Script,
@@ -77,11 +64,13 @@ fn serve_user<B: Store>(
     entries: &mut Entries<Entry>,
     p: usize,
     u: usize,
+    count: usize,
 ) -> Result<(), StopCause>
     ghost start: { Start }
     requires start { IsCoreStart script.now start.system start.flat }
     requires user { u < length script.now.users }
     requires phase { p < phases_most script.now.users }
+    requires count { count ≡ asked_before (user_script script.now u).phases (p + 1) }
     requires before { HasServed script.now start.system start.flat (system_of levels.old) entries.old p u }
     ensures served { OnOk result (HasServed script.now start.system start.flat (system_of levels.new) entries.new p (u + 1)) }
     ensures front { IsFrontFrom script.now start.system start.flat entries.new }
@@ -89,26 +78,29 @@ fn serve_user<B: Store>(
     ensures users { length levels.new.privates.items ≡ length levels.old.privates.items }
     ensures cause { MayStop (B.faults levels.old.pages.store) (B.faults levels.new.pages.store) result }
 {
-    let count = asked_up_to(script, p, u);
     'turns: while let Some(request) = due(script, &levels.privates.as_slice()[u], count) {
         serve(alloc, script, levels, trace, entries, u as u8, &request)?;
     }
     Ok(())
 }
 
-// Serves phase p of all users, where all before is served.
+// Serves phase p of all users, where all before is served. The counts are those of each user's requests before the phase,
+// and then before the next.
 fn serve_users<B: Store>(
     alloc: Global,
     script: &Script,
     levels: &mut Levels<B>,
     trace: &mut Trace,
     entries: &mut Entries<Entry>,
+    counts: &mut [usize; 8],
     p: usize,
 ) -> Result<(), StopCause>
     ghost start: { Start }
     requires start { IsCoreStart script.now start.system start.flat }
     requires phase { p < phases_most script.now.users }
+    requires counted { AreCounted script.now p 0 counts.old }
     requires before { HasServed script.now start.system start.flat (system_of levels.old) entries.old p 0 }
+    ensures counted { OnOk result (AreCounted script.now (p + 1) 0 counts.new) }
     ensures served { OnOk result (HasServed script.now start.system start.flat (system_of levels.new) entries.new (p + 1) 0) }
     ensures front { IsFrontFrom script.now start.system start.flat entries.new }
     ensures settled { AreSettledFrom script.now start.system entries.new levels.new.privates.items }
@@ -116,7 +108,9 @@ fn serve_users<B: Store>(
     ensures cause { MayStop (B.faults levels.old.pages.store) (B.faults levels.new.pages.store) result }
 {
     'users: for u in 0..script.users().len() {
-        serve_user(alloc, script, levels, trace, entries, p, u)?;
+        let count = counts[u] + asked_in(script, p, u);
+        serve_user(alloc, script, levels, trace, entries, p, u, count)?;
+        counts[u] = count;
     }
     Ok(())
 }
@@ -142,8 +136,9 @@ pub(crate) fn serve_phases<B: Store>(
     ensures users { length levels.new.privates.items ≡ length levels.old.privates.items }
     ensures cause { MayStop (B.faults levels.old.pages.store) (B.faults levels.new.pages.store) result }
 {
+    let mut counts = [0; 8];
     'phases: for p in 0..phases_of(script.users()) {
-        serve_users(alloc, script, levels, trace, entries, p)?;
+        serve_users(alloc, script, levels, trace, entries, &mut counts, p)?;
     }
     Ok(())
 }

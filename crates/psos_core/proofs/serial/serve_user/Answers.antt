@@ -7,7 +7,7 @@ bounds-as_slice-u g c = omega (arith, all_users _ _ _ c.requires.1.0 _ _ _ _ c.t
 
 pub serve-requires-clause-asks : goal.serve-requires-clause-asks
 serve-requires-clause-asks g c =
-    let found = finds _ _ _ c.requires.1.0 _ _ _ _ c.turns.invariant.0 c.as_slice.result.now c.index-as_slice-u.result c.asked_up_to-count.result _ _ c.as_slice.ensures.value c.index-as_slice-u.is c.requires.1.1.0 c.asked_up_to-count.ensures c.due.ensures c.in-Some.is in
+    let found = finds _ _ _ c.requires.1.0 _ _ _ _ c.turns.invariant.0 c.as_slice.result.now c.index-as_slice-u.result c.args.count _ _ c.as_slice.ensures.value c.index-as_slice-u.is c.requires.1.1.0 c.requires.1.1.1.1.0 c.due.ensures c.in-Some.is in
     asks _ _ _ c.requires.1.0 _ _ _ _ c.turns.invariant.0 _ _ found
 
 pub serve-requires-clause-few : goal.serve-requires-clause-few
@@ -15,12 +15,12 @@ serve-requires-clause-few g c = few _ _ _ c.requires.1.0 _ _ _ _ c.turns.invaria
 
 pub turns-smaller : goal.turns-smaller
 turns-smaller g c =
-    let found = finds _ _ _ c.requires.1.0 _ _ _ _ c.turns.invariant.0 c.as_slice.result.now c.index-as_slice-u.result c.asked_up_to-count.result _ _ c.as_slice.ensures.value c.index-as_slice-u.is c.requires.1.1.0 c.asked_up_to-count.ensures c.due.ensures c.in-Some.is in
+    let found = finds _ _ _ c.requires.1.0 _ _ _ _ c.turns.invariant.0 c.as_slice.result.now c.index-as_slice-u.result c.args.count _ _ c.as_slice.ensures.value c.index-as_slice-u.is c.requires.1.1.0 c.requires.1.1.1.1.0 c.due.ensures c.in-Some.is in
     one_fewer _ _ _ c.requires.1.0 _ _ _ _ c.turns.invariant.0 _ _ found _ _ c.in_ok-serve.ensures.served
 
 pub turns-preserved : goal.turns-preserved
 turns-preserved g c =
-    let found = finds _ _ _ c.requires.1.0 _ _ _ _ c.turns.invariant.0 c.as_slice.result.now c.index-as_slice-u.result c.asked_up_to-count.result _ _ c.as_slice.ensures.value c.index-as_slice-u.is c.requires.1.1.0 c.asked_up_to-count.ensures c.due.ensures c.in-Some.is in (
+    let found = finds _ _ _ c.requires.1.0 _ _ _ _ c.turns.invariant.0 c.as_slice.result.now c.index-as_slice-u.result c.args.count _ _ c.as_slice.ensures.value c.index-as_slice-u.is c.requires.1.1.0 c.requires.1.1.1.1.0 c.due.ensures c.in-Some.is in (
       one_more _ _ _ c.requires.1.0 _ _ _ _ c.turns.invariant.0 _ _ found _ _ c.in_ok-serve.ensures.served,
       omega (arith, c.in_ok-serve.ensures.cause.later, c.turns.invariant.1),
       c.serve.ensures.users ∙ c.turns.invariant.2,
@@ -28,7 +28,7 @@ turns-preserved g c =
 
 pub returns-clause-served : goal.returns-clause-served
 returns-clause-served g c =
-    let found = finds _ _ _ c.requires.1.0 _ _ _ _ c.turns.invariant.0 c.as_slice.result.now c.index-as_slice-u.result c.asked_up_to-count.result _ _ c.as_slice.ensures.value c.index-as_slice-u.is c.requires.1.1.0 c.asked_up_to-count.ensures c.due.ensures c.in_default.is in
+    let found = finds _ _ _ c.requires.1.0 _ _ _ _ c.turns.invariant.0 c.as_slice.result.now c.index-as_slice-u.result c.args.count _ _ c.as_slice.ensures.value c.index-as_slice-u.is c.requires.1.1.0 c.requires.1.1.1.1.0 c.due.ensures c.in_default.is in
     next_user _ _ _ c.requires.1.0 _ _ _ _ c.turns.invariant.0 _ found
 
 pub returns-clause-front : goal.returns-clause-front
