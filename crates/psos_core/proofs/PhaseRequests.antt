@@ -1,6 +1,6 @@
 -- Requests by phases.
 use Rattle.std.proofs.Common.{◌≡◌, ℕ, zero, suc, ◌+◌, ◌-◌, ◌<◌, ◌≤◌, Bool, true, false, cond, ltb, get_or, List, [], ◌∷◌, length, Option, Some, None, refl, sym, ap, ◌∙◌, ◌⊎◌, inl, inr, subst, arith}
-use Rattle.std.specs.Prelude.{option_map, sum_by}
+use Rattle.std.specs.Prelude.{option_map, slice_get, sum_by}
 use Rattle.std.specs.List.{flat_map}
 use Rattle.std.proofs.lemmas.Bool.{le-ltb, ltb-false, cases_lt}
 use Rattle.std.proofs.lemmas.Option.{same_Some, none-some}
@@ -8,6 +8,7 @@ use Rattle.std.proofs.lemmas.List.{length-append}
 use Rattle.std.proofs.lemmas.List.Sums.{sum_by-cons}
 use Rattle.psos_calls.specs.declared.request.Request.{Request}
 use Rattle.psos_model.specs.Run.{phase_at}
+use Rattle.psos_calls.proofs.PhasePlaces.{get-append_left, get-append_right}
 use Rattle.psos_core.specs.UnderWay.{asked_before, AtLeast}
 
 -- ---- how many requests stand before a phase
@@ -34,6 +35,22 @@ asked_more (x ∷ xs) zero = omega arith
 asked_more (x ∷ xs) (suc p) =
     let next : suc p + 1 ≡ suc (p + 1) = omega arith in
     omega (arith, ap (asked_before (x ∷ xs)) next, asked_more xs p)
+
+-- a request of phase p, by its place in the phase
+pub asked_here : (phases : List (List Request)) (p k : ℕ) → asked_before phases p ≤ k → k < asked_before phases (p + 1)
+    → slice_get (flat_map (λ x. x) phases) k ≡ slice_get (get_or phases p []) (k - asked_before phases p)
+asked_here [] zero k low high = absurd (omega (arith, high))
+asked_here [] (suc p) k low high = absurd (omega (arith, high, asked_more [] (suc p)))
+asked_here (x ∷ xs) zero k low high =
+    let same : k ≡ k - 0 = omega arith in
+    get-append_left x (flat_map (λ x. x) xs) k (omega (arith, high)) ∙ ap (slice_get x) same
+asked_here (x ∷ xs) (suc p) k low high =
+    let next : suc p + 1 ≡ suc (p + 1) = omega arith in
+    let past : k ≡ length x + (k - length x) = omega (arith, low) in
+    let rest : k - length x - asked_before xs p ≡ k - (length x + asked_before xs p) = omega arith in
+    get-append_right x (flat_map (λ x. x) xs) k (k - length x) past
+    ∙ asked_here xs p (k - length x) (omega (arith, low)) (omega (arith, high, ap (asked_before (x ∷ xs)) next, past))
+    ∙ ap (slice_get (get_or xs p [])) rest
 
 pub phases_few : (phases : List (List Request)) → length phases ≤ sum_by (λ p. length p + 1) phases
 phases_few [] = omega arith

@@ -83,6 +83,12 @@ module _ (s : Script) (y : System) (f : Flat) (start : IsCoreStart s y f) (now :
     is = ap (due s x) (sym all) ∙ (sym does ∙ what);
   }
 
+  -- user u has this number
+  pub numbered : (slots : List User) (x : User) → slots ≡ now.users → x ≡ get_or slots u x → u < length s.users → x.number ≡ u
+  numbered slots x same is below =
+      let there = found_there slots now.users u x same is (omega (arith, all_users, below)) in
+      (going.each u x (ap (λ (xs : List User). slice_get xs u) (sym stands.users) ∙ there)).number
+
   -- ---- a request that is due
   module _ (x : User) (request : Request) (found : Finds s now p u x (Some request)) where
     there : slice_get now.users u ≡ Some x

@@ -138,16 +138,7 @@ impl<B: Store> Core<B> {
         ensures entries { result.1 ≡ self.entries }
         ensures levels { result.2 ≡ self.levels }
     {
-        let Core {
-            script,
-            levels,
-            entries,
-            stopped: _,
-            start_faults: _,
-            trace: _,
-            ongoing: _,
-        } = self;
-        (script, entries, levels)
+        (self.script, self.entries, self.levels)
     }
 
     /// The script, and what the run leaves. The levels are given where it was not stopped, and the store where it was:

@@ -1,6 +1,6 @@
 // All requests of a script, in the serial order.
-ghost use Rattle.std.specs.Prelude.{◌≡◌, ◌<◌, ◌+◌, [], length, slice_index_or, OnOk};
-ghost use Rattle.psos_calls.specs.Language.Script.{user_script};
+ghost use Rattle.std.specs.Prelude.{◌≡◌, ◌<◌, ◌+◌, [], length, slice_get, slice_index_or, OnOk};
+ghost use Rattle.psos_calls.specs.Language.Script.{user_script, requests_of};
 ghost use Rattle.psos_model.specs.Run.{is_open};
 ghost use Rattle.psos_model.specs.Events.Serial.{IsCoreStart};
 ghost use Rattle.psos_model.specs.Run.SerialOrder.{IsSerialFrom};
@@ -44,12 +44,45 @@ pub(crate) fn is_open(me: &Private) -> bool
     me.label_and_line().is_some()
 }
 
-// What a user asks next, where a body is open, or not so many of its script requests are answered.
-fn due(script: &Script, me: &Private, count: usize) -> Option<Request>
+// Request k of user u in phase p, counted from 0.
+fn asked_of(script: &Script, p: usize, u: usize, k: usize) -> Option<Request>
+    requires { u < length script.now.users }
+    ensures { result ≡ slice_get (slice_index_or (user_script script.now u).phases p []) k }
+{
+    match script.users()[u].phases().get(p) {
+        Some(phase) => phase.get(k).copied(),
+        None => None,
+    }
+}
+
+// Request k of user u, counted from 0 over all phases, where so many stand in the phases up to p: one of phase p is found
+// at once.
+fn asked_at(script: &Script, p: usize, u: usize, count: usize, k: usize) -> Option<Request>
+    requires user { u < length script.now.users }
+    requires count { count ≡ asked_before (user_script script.now u).phases (p + 1) }
+    ensures { result ≡ slice_get (requests_of (user_script script.now u)) k }
+{
+    let last = asked_in(script, p, u);
+    if k < count && count - last <= k {
+        return asked_of(script, p, u, k - (count - last));
+    }
+    script.users()[u].request(k)
+}
+
+// What user u asks next, where a body is open, or not so many of its script requests are answered, which are those of the
+// phases up to p.
+fn due(script: &Script, me: &Private, p: usize, u: usize, count: usize) -> Option<Request>
+    requires user { u < length script.now.users }
+    requires number { me.now.number ≡ u }
+    requires count { count ≡ asked_before (user_script script.now u).phases (p + 1) }
     ensures { result ≡ due script.now me.now count }
 {
-    if is_open(me) || (me.answered() as usize) < count {
+    if is_open(me) {
         return me.next_request(script);
+    }
+    let answered = me.answered() as usize;
+    if answered < count {
+        return asked_at(script, p, u, count, answered);
     }
     None
 }
@@ -78,7 +111,7 @@ fn serve_user<B: Store>(
     ensures users { length levels.new.privates.items ≡ length levels.old.privates.items }
     ensures cause { MayStop (B.faults levels.old.pages.store) (B.faults levels.new.pages.store) result }
 {
-    'turns: while let Some(request) = due(script, &levels.privates.as_slice()[u], count) {
+    'turns: while let Some(request) = due(script, &levels.privates.as_slice()[u], p, u, count) {
         serve(alloc, script, levels, trace, entries, u as u8, &request)?;
     }
     Ok(())

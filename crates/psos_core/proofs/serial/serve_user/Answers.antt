@@ -1,9 +1,12 @@
 use Rattle.std.proofs.Common.{length, ap, ◌∙◌, arith}
-use Rattle.psos_core.proofs.SerialRun.{all_users, few, finds, asks, one_more, one_fewer, next_user, front_so_far, settled_so_far, front_left, settled_left}
+use Rattle.psos_core.proofs.SerialRun.{all_users, numbered, few, finds, asks, one_more, one_fewer, next_user, front_so_far, settled_so_far, front_left, settled_left}
 use Rattle.psos_core.proofs.serial.serve_user.Goals as goal
 
 pub bounds-as_slice-u : goal.bounds-as_slice-u
 bounds-as_slice-u g c = omega (arith, all_users _ _ _ c.requires.1.0 _ _ _ _ c.turns.invariant.0, c.requires.1.1.0, ap length c.as_slice.ensures.value)
+
+pub due-requires-clause-number : goal.due-requires-clause-number
+due-requires-clause-number g c = numbered _ _ _ c.requires.1.0 _ _ _ _ c.turns.invariant.0 c.as_slice.result.now c.index-as_slice-u.result c.as_slice.ensures.value c.index-as_slice-u.is c.requires.1.1.0
 
 pub serve-requires-clause-asks : goal.serve-requires-clause-asks
 serve-requires-clause-asks g c =
