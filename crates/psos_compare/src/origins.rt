@@ -114,16 +114,28 @@ fn put_origin(
     Ok(())
 }
 
-fn put_run(alloc: Global, out: &mut Vec<u8>, script: &Script) -> Result<(), AllocError>
-    requires { IsWellFormed script.now }
+// The answers to the requests of both users, in an order of their own.
+fn put_answers(
+    alloc: Global,
+    out: &mut Vec<u8>,
+    run: &mut Watched,
+    script: &Script,
+) -> Result<(), AllocError>
+    requires watched { IsWatched run.old }
+    requires script { script_of run.old ≡ script.now }
+    ensures watched { IsWatched run.new }
+    ensures script { script_of run.new ≡ script.now }
 {
-    let mut run = Watched::boot(alloc, script)?;
-    put_order(alloc, out, &run, script)?;
-    put_answer(alloc, out, &mut run, script, 0)?;
-    put_answer(alloc, out, &mut run, script, 1)?;
-    put_answer(alloc, out, &mut run, script, 1)?;
-    put_answer(alloc, out, &mut run, script, 0)?;
-    put_order(alloc, out, &run, script)?;
+    put_answer(alloc, out, run, script, 0)?;
+    put_answer(alloc, out, run, script, 1)?;
+    put_answer(alloc, out, run, script, 1)?;
+    put_answer(alloc, out, run, script, 0)
+}
+
+// What the run left in some places, and where it came from.
+fn put_places(alloc: Global, out: &mut Vec<u8>, run: &Watched) -> Result<(), AllocError>
+    requires { IsWatched run.now }
+{
     let places = [
         Place::Reg { user: 0, i: 0 },
         Place::Reg { user: 0, i: 5 },
@@ -135,6 +147,16 @@ fn put_run(alloc: Global, out: &mut Vec<u8>, script: &Script) -> Result<(), Allo
         put_origin(alloc, out, *place, run.origin(place))?;
     }
     Ok(())
+}
+
+fn put_run(alloc: Global, out: &mut Vec<u8>, script: &Script) -> Result<(), AllocError>
+    requires { IsWellFormed script.now }
+{
+    let mut run = Watched::boot(alloc, script)?;
+    put_order(alloc, out, &run, script)?;
+    put_answers(alloc, out, &mut run, script)?;
+    put_order(alloc, out, &run, script)?;
+    put_places(alloc, out, &run)
 }
 
 /// A run of two users in an order of its own, and the origin of what it left in some places.

@@ -19,4 +19,8 @@ mod upcoming;
 
 pub use event::Event;
 pub use levels::{Levels, act_issuer};
+pub use perform::{Closing, stop_cause};
+pub use phases::phase_of;
+pub use plan::next;
 pub use run::{Core, Parts};
+pub use serial::is_open;

@@ -20,15 +20,15 @@ use psos_io::Store;
 use psos_journal::StopCause;
 use std::alloc::Global;
 
-/// How a request closes.
+/// How a request closes: with a reply, and with what it does to its user's own part.
 #[derive(Drop)]
-pub(crate) struct Closing {
+pub struct Closing {
     pub reply: Reply,
     pub effect: Effect,
 }
 
-// Why a run stops where a level's call could not be made.
-fn stop_cause(fault: &LevelFault) -> StopCause
+/// Why a run stops where a level's call could not be made.
+pub fn stop_cause(fault: &LevelFault) -> StopCause
     ensures store { result ≡ StopCause.Store → fault.now ≡ LevelFault.Store }
     ensures why { (call : AnyCall) → CanFault call fault.now → CanStop call result }
 {

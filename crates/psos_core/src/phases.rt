@@ -68,7 +68,7 @@ impl Phases {
 }
 
 /// The phase of what a user asks next: the current phase, if there were no other users.
-pub(crate) fn phase_of(script: &Script, me: &Private) -> Option<usize>
+pub fn phase_of(script: &Script, me: &Private) -> Option<usize>
     ensures { result ≡ phase_of script.now me.now }
 {
     current_phase(script, slice::from_ref(me))

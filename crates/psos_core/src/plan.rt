@@ -14,7 +14,7 @@ use std::alloc::{AllocError, Global};
 /// What the plan of a request does after its calls so far (docs/requests.md, "Plans"): the next call, or the close. The
 /// trace is a front of a run of the plan, from levels in which each live directory has an entry list. `Err` only where
 /// memory runs out, and comes only where `list` closes with its names.
-pub(crate) fn next(
+pub fn next(
     alloc: Global,
     request: &Request,
     me: &Private,

@@ -38,7 +38,8 @@ fn asked_in(script: &Script, p: usize, u: usize) -> usize
     }
 }
 
-pub(crate) fn is_open(me: &Private) -> bool
+/// Whether the user has a body open.
+pub fn is_open(me: &Private) -> bool
     ensures { result ≡ is_open me.now.frames }
 {
     me.label_and_line().is_some()

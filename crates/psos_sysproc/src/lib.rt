@@ -9,6 +9,7 @@ mod table;
 mod turns;
 mod want;
 
+pub use place::rank;
 pub use table::Table;
 pub use turns::Turns;
 pub use want::Want;

@@ -6,7 +6,7 @@ ghost use Rattle.psos_sysproc.specs.Owners.{place};
 use psos_calls::{Level, LockId};
 
 /// The number of a level: in the falling order the greater comes earlier.
-pub(crate) fn rank(level: Level) -> u8
+pub fn rank(level: Level) -> u8
     ensures value { result ≡ rank level }
     ensures low { result < 14 }
 {
