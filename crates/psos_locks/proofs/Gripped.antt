@@ -36,7 +36,7 @@ pub record IsThere (lock : LockId) (o : Option Grip) : Type 0 where
   pub is : o ≡ Some grip
   pub same : same_lock grip.lock lock ≡ true
 
-none_other : (lock : LockId) (slots : List (Option Grip)) → AreOther lock slots → is_held (locks_of (grips_in slots)) lock ≡ false
+pub none_other : (lock : LockId) (slots : List (Option Grip)) → AreOther lock slots → is_held (locks_of (grips_in slots)) lock ≡ false
 none_other lock [] h = refl
 none_other lock (None ∷ slots) h = none_other lock slots h.1
 none_other lock (Some g ∷ slots) h = ap (λ (b : Bool). b || is_held (locks_of (grips_in slots)) lock) h.0 ∙ none_other lock slots h.1

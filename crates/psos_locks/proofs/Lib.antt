@@ -1,1 +1,5 @@
 pub mod Gripped
+pub mod PlaceOfLevel
+pub mod Settling
+pub mod Working
+pub mod Closing

@@ -48,8 +48,8 @@ type_grip g = grip_by (λ s. level_lock L9) (λ s. Types s) g
 abbrev pub seg_grip : MutexGuard (SegState × Side Entry × Bool) → Grip
 seg_grip g = grip_by (λ s. level_lock L8) (λ s. Segs s) g
 
-abbrev pub page_grip : {B : Type 0} → MutexGuard (PagesState B × Side Entry × Bool) → Grip
-page_grip {B} g = grip_by (λ (s : PagesState B). level_lock L7) (λ (s : PagesState B). Slots s.slots) g
+abbrev pub page_grip : {B : Type 0} → MutexGuard ((PagesState B × ℕ) × Side Entry × Bool) → Grip
+page_grip {B} g = grip_by (λ (s : PagesState B × ℕ). level_lock L7) (λ (s : PagesState B × ℕ). Slots s.0.slots) g
 
 abbrev pub next_grip : MutexGuard (ℕ × Side Entry × Bool) → Grip
 next_grip g = grip_by (λ n. level_lock L0) (λ n. Next n) g

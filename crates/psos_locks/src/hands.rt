@@ -1,25 +1,35 @@
 // The locks that a request holds.
-ghost use Rattle.std.specs.Prelude.{◌≡◌, [], IfSome};
-ghost use Rattle.std.specs.Sync.Mutex.{mutex_guard_value};
-ghost use Rattle.psos_journal.specs.Members.{named};
-ghost use Rattle.psos_journal.specs.Views.{list_of};
-ghost use Rattle.psos_histories.specs.Grips.{HaveMet};
-ghost use Rattle.psos_locks.specs.Grips.{grips_of};
+ghost use Rattle.std.specs.Prelude.{◌≡◌, ◌<◌, ◌^◌, [], ◌∷◌, ◌++◌, true, length, Some, option_map, IfErr, OnOk};
+ghost use Rattle.psos_limits.specs.declared.TheConstants.{TRACE_ROOM};
+ghost use Rattle.psos_calls.specs.Levels.{level_of};
+ghost use Rattle.psos_calls.specs.Language.Script.{IsWellFormed};
+ghost use Rattle.psos_calls.specs.Locks.{lock_of};
+ghost use Rattle.psos_calls.specs.Locks.Held.{is_held};
+ghost use Rattle.psos_core.specs.Faults.{CanFault};
+ghost use Rattle.psos_histories.specs.Closes.{bits_for};
+ghost use Rattle.psos_histories.specs.Grips.{locks_of, HaveMet};
+ghost use Rattle.psos_histories.specs.Requests.{called, step_in, CanIn};
+ghost use Rattle.psos_locks.specs.Grips.{box_grip, grips_of, slots_of};
+ghost use Rattle.psos_locks.specs.Places.{holds_in, left_by, MaySettle, HasFailed};
 
 use crate::book::Book;
+use crate::counted_pages::CountedPages;
 use crate::held::Held;
-use crate::part::Part;
+use crate::places::{make_one, meet_one, name_one, settle_one};
 use crate::run::Run;
+use psos_calls::{Entry, Level, LevelCall, LevelFault, Trace};
 use psos_caps::Issuer;
 use psos_codes::Codes;
 use psos_dirs::Dirs;
 use psos_io::Store;
+use psos_journal::{FaultsOf, Journal, Pen};
 use psos_life::Life;
-use psos_pages::Pages;
 use psos_procs::Mailbox;
 use psos_segs::Segs;
 use psos_types::Types;
+use std::alloc::Global;
 use std::sync::MutexGuard;
+use std::sync::ledger::Share;
 
 /// The locks that a request holds: at most one of each level, since two mailboxes are never held together. They are
 /// seen as their grips, the one that was taken last first (docs/levels.md, "Locks").
@@ -31,20 +41,8 @@ pub struct Hands<'a, T: Run, B: Store> {
     pub(crate) dirs: Option<MutexGuard<'a, Held<T, Dirs>>>,
     pub(crate) types: Option<MutexGuard<'a, Held<T, Types>>>,
     pub(crate) segs: Option<MutexGuard<'a, Held<T, Segs>>>,
-    pub(crate) pages: Option<MutexGuard<'a, Held<T, Pages<B>>>>,
+    pub(crate) pages: Option<MutexGuard<'a, Held<T, CountedPages<T, B>>>>,
     pub(crate) issuer: Option<MutexGuard<'a, Held<T, Issuer>>>,
-}
-
-// The member behind a lock, where that is held, has the entries that name it.
-fn meet_one<'a, T: Run, K: Part>(book: &mut Book<T>, place: &mut Option<MutexGuard<'a, Held<T, K>>>)
-    ensures book { book.new ≡ book.old }
-    ensures same { place.new ≡ place.old }
-    ensures met { IfSome place.old (λ g. list_of (mutex_guard_value g).1 ≡ named (mutex_guard_value g).1.number book.old.entries) }
-{
-    match place {
-        Some(held) => book.meet(held),
-        None => {}
-    }
 }
 
 impl<'a, T: Run, B: Store> Hands<'a, T, B> {
@@ -64,6 +62,57 @@ impl<'a, T: Run, B: Store> Hands<'a, T, B> {
         }
     }
 
+    /// Whether the lock of a call is held.
+    pub fn holds(&self, users: u8, level: Level, call: &LevelCall) -> bool
+        requires script { IsWellFormed T.script }
+        requires users { users ≡ length T.script.users }
+        requires level { level_of call.now ≡ level }
+        ensures { result ≡ is_held (locks_of (grips_of self.now)) (lock_of users call.now) }
+    {
+        match level {
+            Level::L13 => self.codes.is_some(),
+            Level::L12 => is_box(&self.mailbox, users, call),
+            Level::L11 => self.life.is_some(),
+            Level::L10 => self.dirs.is_some(),
+            Level::L9 => self.types.is_some(),
+            Level::L8 => self.segs.is_some(),
+            Level::L7 => self.pages.is_some(),
+            Level::L0 => self.issuer.is_some(),
+        }
+    }
+
+    /// Makes a call under its lock, which is held, and adds it to the trace with its answer. `Err` where the level's
+    /// own call has one.
+    pub fn make(
+        &mut self,
+        alloc: Global,
+        users: u8,
+        level: Level,
+        call: &LevelCall,
+        trace: &mut Trace,
+    ) -> Result<(), LevelFault>
+        requires users { users ≡ length T.script.users }
+        requires level { level_of call.now ≡ level }
+        requires held { is_held (locks_of (grips_of self.old)) (lock_of users call.now) ≡ true }
+        requires can { CanIn (grips_of self.old) (lock_of users call.now) call.now }
+        requires room { length trace.old < TRACE_ROOM }
+        ensures called { OnOk result (grips_of self.new ≡ called (grips_of self.old) (lock_of users call.now) call.now) }
+        ensures traced { OnOk result (trace.new ≡ trace.old ++ step_in (grips_of self.old) (lock_of users call.now) call.now ∷ []) }
+        ensures why { IfErr result (CanFault call.now) }
+        ensures failed { IfErr result (λ fault. fault ≡ LevelFault.Store → HasFailed T.faults_before B.faults self.new.pages) }
+    {
+        match level {
+            Level::L13 => make_one(alloc, users, call, trace, &mut self.codes),
+            Level::L12 => make_one(alloc, users, call, trace, &mut self.mailbox),
+            Level::L11 => make_one(alloc, users, call, trace, &mut self.life),
+            Level::L10 => make_one(alloc, users, call, trace, &mut self.dirs),
+            Level::L9 => make_one(alloc, users, call, trace, &mut self.types),
+            Level::L8 => make_one(alloc, users, call, trace, &mut self.segs),
+            Level::L7 => make_one(alloc, users, call, trace, &mut self.pages),
+            Level::L0 => make_one(alloc, users, call, trace, &mut self.issuer),
+        }
+    }
+
     /// All members behind the locks have the entries that name them. Nothing changes.
     pub fn meet(&mut self, book: &mut Book<T>)
         ensures book { book.new ≡ book.old }
@@ -78,5 +127,68 @@ impl<'a, T: Run, B: Store> Hands<'a, T, B> {
         meet_one(book, &mut self.segs);
         meet_one(book, &mut self.pages);
         meet_one(book, &mut self.issuer);
+    }
+
+    /// The bits of a user and of the members behind all these locks.
+    pub(crate) fn names(&self, user: u8) -> u64
+        requires script { IsWellFormed T.script }
+        requires user { user < 24 }
+        ensures { result ≡ bits_for user (grips_of self.now) }
+    {
+        let names = name_one(1 << user, &self.codes);
+        let names = name_one(names, &self.mailbox);
+        let names = name_one(names, &self.life);
+        let names = name_one(names, &self.dirs);
+        let names = name_one(names, &self.types);
+        let names = name_one(names, &self.segs);
+        let names = name_one(names, &self.pages);
+        name_one(names, &self.issuer)
+    }
+
+    /// Enters the entry of the open pen, which names a user and these locks, into all their members; none of them is
+    /// broken any more, and the pen has still to be entered for the user.
+    pub(crate) fn settle(&mut self, journal: &mut Journal<T, Entry>, pen: &mut Pen<T>)
+        requires pen { journal.old.left ≡ Some pen.old }
+        requires ready { MaySettle T.script journal.old.entries (slots_of self.old) pen.old }
+        ensures journal { journal.new ≡ record journal.old { left = Some pen.new } }
+        ensures pen { pen.new ≡ left_by (slots_of self.old) pen.old }
+    {
+        settle_one(journal, pen, &mut self.issuer);
+        settle_one(journal, pen, &mut self.pages);
+        settle_one(journal, pen, &mut self.segs);
+        settle_one(journal, pen, &mut self.types);
+        settle_one(journal, pen, &mut self.dirs);
+        settle_one(journal, pen, &mut self.life);
+        settle_one(journal, pen, &mut self.mailbox);
+        settle_one(journal, pen, &mut self.codes);
+    }
+
+    /// A fault of the store, in a call under the lock of level 7, is counted on both sides of the ledger.
+    pub(crate) fn count(&mut self, share: &mut Share<FaultsOf<T>>)
+        requires failed { HasFailed T.faults_before B.faults self.old.pages }
+        requires one { share.old.parts ≡ 1 }
+        ensures parts { share.new.parts ≡ share.old.parts }
+        ensures counted { 0 < share.new.amount }
+    {
+        match &mut self.pages {
+            Some(held) => held.count_fault(share),
+            None => unreachable!(),
+        }
+    }
+}
+
+// Whether a mailbox is held that a call is of.
+fn is_box<'a, T: Run>(
+    place: &Option<MutexGuard<'a, Held<T, Mailbox>>>,
+    users: u8,
+    call: &LevelCall,
+) -> bool
+    requires users { users ≡ length T.script.users }
+    requires level { level_of call.now ≡ Level.L12 }
+    ensures { result ≡ holds_in (lock_of users call.now) (option_map box_grip place.now) }
+{
+    match place {
+        Some(held) => held.has_part(users, call),
+        None => false,
     }
 }

@@ -10,6 +10,7 @@ ghost use Rattle.psos_locks.specs.Grips.{box_grip, grip_by, grips_of, IsPut, IsT
 ghost use Rattle.psos_locks.specs.Runs.{HasLooked};
 
 use crate::book::Book;
+use crate::counted_pages::CountedPages;
 use crate::hands::Hands;
 use crate::held::Held;
 use crate::part::Part;
@@ -21,7 +22,6 @@ use psos_dirs::Dirs;
 use psos_io::Store;
 use psos_journal::Member;
 use psos_life::Life;
-use psos_pages::Pages;
 use psos_procs::Mailbox;
 use psos_segs::Segs;
 use psos_types::Types;
@@ -36,7 +36,7 @@ pub struct Locks<T: Run, B: Store> {
     pub(crate) dirs: Mutex<Held<T, Dirs>>,
     pub(crate) types: Mutex<Held<T, Types>>,
     pub(crate) segs: Mutex<Held<T, Segs>>,
-    pub(crate) pages: Mutex<Held<T, Pages<B>>>,
+    pub(crate) pages: Mutex<Held<T, CountedPages<T, B>>>,
     pub(crate) issuer: Mutex<Held<T, Issuer>>,
     pub(crate) journal: Mutex<Book<T>>,
 }
@@ -77,7 +77,7 @@ fn take_box<'a, T: Run, R: Wait>(
         return false;
     }
     let held = boxes[part].lock(rt);
-    if held.is_broken() || !held.state.has_part(call) {
+    if held.is_broken() || !held.has_part(users, call) {
         return false;
     }
     *place = Some(held);

@@ -1,16 +1,18 @@
 // What may lie under a lock.
-ghost use Rattle.std.specs.Prelude.{◌≡◌, ◌<◌, [], ◌∷◌, ◌++◌, length, OnOk, OnErr};
+ghost use Rattle.std.specs.Prelude.{◌≡◌, ◌<◌, [], ◌∷◌, ◌++◌, length, IfErr, OnOk, OnErr};
 ghost use Rattle.psos_limits.specs.declared.TheConstants.{TRACE_ROOM};
 ghost use Rattle.psos_calls.specs.Locks.{lock_of};
+ghost use Rattle.psos_core.specs.Faults.{CanFault};
 ghost use Rattle.psos_histories.specs.Pieces.{act_piece, can_piece};
 
+use crate::counted_pages::CountedPages;
+use crate::run::Run;
 use psos_calls::{LevelAnswer, LevelCall, LevelFault, Trace};
 use psos_caps::Issuer;
 use psos_codes::Codes;
 use psos_dirs::Dirs;
 use psos_io::Store;
 use psos_life::Life;
-use psos_pages::Pages;
 use psos_procs::Mailbox;
 use psos_segs::Segs;
 use psos_types::Types;
@@ -32,9 +34,12 @@ pub trait Part {
     // It is of a run of so many users.
     ghost fits: { Self → ℕ → Type 0 };
 
+    // The store beneath it failed since the run began.
+    ghost has_failed: { Self → Type 0 };
+
     /// Makes a call under its lock, where the call's condition holds, and adds it to a trace that has room, with its
-    /// answer. A page that is read is copied once, into the trace. `Err` where the level's own call has one: nothing is
-    /// changed, and the trace is as it was.
+    /// answer. A page that is read is copied once, into the trace. `Err` for want of memory, of a call that adds a row
+    /// alone, or for a fault of the store, of a call of level 7 alone: nothing is changed, and the trace is as it was.
     fn make(
         &mut self,
         alloc: Global,
@@ -55,7 +60,9 @@ pub trait Part {
           answer = (act_piece (piece self.old) call.now).1;
         } ∷ []) }
         ensures kept { OnErr result (piece self.new ≡ piece self.old) }
-        ensures untraced { OnErr result (trace.new ≡ trace.old) };
+        ensures untraced { OnErr result (trace.new ≡ trace.old) }
+        ensures why { IfErr result (CanFault call.now) }
+        ensures failed { IfErr result (λ fault. fault ≡ LevelFault.Store → has_failed self.new) };
 }
 
 impl Part for Codes {
@@ -67,6 +74,8 @@ impl Part for Codes {
     ghost piece = { λ s. pieces.Codes s };
 
     ghost fits = { λ s n. Unit {0} };
+
+    ghost has_failed = { λ s. ⊥ };
 
     fn make(
         &mut self,
@@ -92,6 +101,8 @@ impl Part for Mailbox {
 
     ghost fits = { λ b n. b.users ≡ n };
 
+    ghost has_failed = { λ b. ⊥ };
+
     fn make(
         &mut self,
         _alloc: Global,
@@ -114,6 +125,8 @@ impl Part for Life {
     ghost piece = { λ s. pieces.Life s };
 
     ghost fits = { λ s n. Unit {0} };
+
+    ghost has_failed = { λ s. ⊥ };
 
     fn make(
         &mut self,
@@ -138,6 +151,8 @@ impl Part for Dirs {
 
     ghost fits = { λ s n. Unit {0} };
 
+    ghost has_failed = { λ s. ⊥ };
+
     fn make(
         &mut self,
         alloc: Global,
@@ -160,6 +175,8 @@ impl Part for Types {
     ghost piece = { λ s. pieces.Types s };
 
     ghost fits = { λ s n. Unit {0} };
+
+    ghost has_failed = { λ s. ⊥ };
 
     fn make(
         &mut self,
@@ -184,6 +201,8 @@ impl Part for Segs {
 
     ghost fits = { λ s n. Unit {0} };
 
+    ghost has_failed = { λ s. ⊥ };
+
     fn make(
         &mut self,
         alloc: Global,
@@ -197,15 +216,18 @@ impl Part for Segs {
     }
 }
 
-impl<B: Store> Part for Pages<B> {
+impl<T: Run, B: Store> Part for CountedPages<T, B> {
+    ghost use Rattle.psos_io.specs.Causes.{Rose};
     ghost use Rattle.psos_calls.specs.declared.level.Level.TheVariants.{L7};
     ghost use Rattle.psos_histories.specs.Pieces as pieces;
 
     ghost lock = { λ s. record { level = L7; part = 0 } };
 
-    ghost piece = { λ s. pieces.Slots s.slots };
+    ghost piece = { λ s. pieces.Slots s.0.slots };
 
     ghost fits = { λ s n. Unit {0} };
+
+    ghost has_failed = { λ s. Rose T.faults_before (B.faults s.0.store) };
 
     fn make(
         &mut self,
@@ -215,13 +237,13 @@ impl<B: Store> Part for Pages<B> {
         trace: &mut Trace,
     ) -> Result<(), LevelFault> {
         if let LevelCall::PageGet { page } = *call {
-            let Ok(()) = self.bring(page) else {
+            let Ok(()) = self.pages.bring(page) else {
                 return Err(LevelFault::Store);
             };
-            trace.push_page(call, self.page(page));
+            trace.push_page(call, self.pages.page(page));
             return Ok(());
         }
-        let answer = self.answer(alloc, call)?;
+        let answer = self.pages.answer(alloc, call)?;
         trace.push(call, answer);
         Ok(())
     }
@@ -236,6 +258,8 @@ impl Part for Issuer {
     ghost piece = { λ s. pieces.Next s };
 
     ghost fits = { λ s n. Unit {0} };
+
+    ghost has_failed = { λ s. ⊥ };
 
     fn make(
         &mut self,

@@ -1,28 +1,49 @@
 // A user of a run of threads.
+ghost use Rattle.std.specs.Prelude.{◌≡◌};
+ghost use Rattle.psos_locks.specs.Users.{has_more};
+
+use crate::own::Own;
 use crate::run::Run;
-use psos_calls::{Entry, Private};
-use psos_journal::Member;
+use psos_calls::Script;
 use std::marker::Model;
 
-/// A user: its own part, its member of the journal, and whether it is halted. The own part is that of the replay of the
-/// entries that its member knows.
+/// A user: its own part with what it knows, whether it is halted, and how many phases it was served in
+/// (docs/levels.md, "Phases").
 #[derive(Drop)]
 pub struct UserState<T: Run> {
-    pub(crate) private: Private,
-    pub(crate) member: Member<T, Entry>,
+    pub(crate) own: Own<T>,
     pub(crate) halted: bool,
+    pub(crate) served: u64,
 }
 
 impl<T: Run> Model for UserState<T> {
-    ghost use Rattle.std.specs.Prelude.{Bool};
-    ghost use Rattle.psos_calls.specs.declared.entry.Entry.{Entry};
-    ghost use Rattle.psos_calls.specs.Language.User.{User};
-    ghost use Rattle.psos_journal.specs.Views.{Side};
-    ghost use Rattle.psos_locks.specs.Runs.{IsOwn};
+    ghost use Rattle.psos_locks.specs.Users.{UserView};
 
-    ghost Value = { User × Side Entry × Bool };
+    ghost Value = { UserView };
 
-    ghost view = { λ u. (u.private, u.member, u.halted) };
+    ghost view = { λ u. record { who = u.own; halted = u.halted; served = u.served } };
+}
 
-    ghost invariant = { λ u. IsOwn T.script u.member u.private };
+impl<T: Run> UserState<T> {
+    /// Whether the user has an open body, or asks anything more of its own phase.
+    pub fn left(&self, script: &Script) -> bool
+        requires { script.now ≡ T.script }
+        ensures { result ≡ has_more T.script self.now.who }
+    {
+        self.own.has_more(script)
+    }
+
+    /// Whether a request of the user was stopped.
+    pub fn halted(&self) -> bool
+        ensures { result ≡ self.now.halted }
+    {
+        self.halted
+    }
+
+    /// Whether it was told that a store fault stopped the run.
+    pub fn told(&self) -> bool
+        ensures { result ≡ self.now.who.side.told }
+    {
+        self.own.member.told()
+    }
 }
