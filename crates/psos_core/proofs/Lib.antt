@@ -3,6 +3,7 @@ pub mod PhaseRequests
 pub mod ScriptPhases
 pub mod SerialOrder
 pub mod ReplayStep
+pub mod WholeRuns
 pub mod SerialRun
 pub mod PlanRun
 pub mod UserSlots

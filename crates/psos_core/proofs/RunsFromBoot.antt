@@ -8,7 +8,7 @@ use Rattle.psos_laws.proofs.BootSoundness.{boot_start}
 use Rattle.psos_agree.proofs.BootStands.{boot_stands}
 use Rattle.psos_model.specs.Events.Serial.{IsCoreStart}
 use Rattle.psos_core.specs.Serving.{IsRunFrom, IsWholeRun}
-use Rattle.psos_core.proofs.SerialRun.{whole_run}
+use Rattle.psos_core.proofs.WholeRuns.{whole_run}
 
 -- a script can run from the levels at boot, and the flat state of boot
 pub boot_starts : (s : Script) (y : System) → IsWellFormed s → y ≡ boot_system s → IsCoreStart s y (boot s)

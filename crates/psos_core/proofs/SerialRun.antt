@@ -30,6 +30,7 @@ use Rattle.psos_model.specs.Events.Serial.{IsCoreStart}
 use Rattle.psos_core.specs.Serving.{Asks, IsServed, IsFrontFrom, AreSettledFrom, IsRunFrom, IsWholeRun}
 use Rattle.psos_core.specs.EventStates.{IsOver}
 use Rattle.psos_core.proofs.UserSlots.{found_there}
+use Rattle.psos_core.proofs.WholeRuns.{front_of, run_of}
 use Rattle.psos_core.proofs.ReplayStep.{step_is}
 use Rattle.psos_model.proofs.Orders.{run_append, serial_more, serial_legal, order_more, order_length, replay_more, entries_more}
 use Rattle.psos_events.proofs.Replays.{runs_stand}
@@ -215,14 +216,7 @@ at_start s y f now h e = record {
 
 -- the requests so far are a front of a run
 pub front_so_far : (s : Script) (y : System) (f : Flat) (now : System) (entries : List Entry) (p u : ℕ) → IsCoreStart s y f → HasServed s y f now entries p u → IsFrontFrom s y f entries
-front_so_far s y f now entries p u start h =
-    let order = order_of entries in
-    let legal = serial_legal s f order h.serial in
-    record {
-      legal = legal;
-      recorded = h.recorded;
-      answered = ap (map answered_of) h.recorded ∙ (runs_stand s y f order start legal).answered;
-    }
+front_so_far s y f now entries p u start h = front_of s y f entries start (serial_legal s f (order_of entries) h.serial) h.recorded
 
 -- and the users' own parts are settled as in its replay
 pub settled_so_far : (s : Script) (y : System) (f : Flat) (now : System) (entries : List Entry) (p u : ℕ) → HasServed s y f now entries p u → AreSettledFrom s y entries now.users
@@ -243,27 +237,4 @@ over_at_end s y f InOrder entries c left same h = record { nobody = λ u. ap (λ
 
 pub at_end : (s : Script) (y : System) (f : Flat) (now : System) (entries : List Entry) (p : ℕ) → IsCoreStart s y f → p ≡ phases_most s.users → HasServed s y f now entries p 0 → IsRunFrom s y f (IsSerialFrom s f) entries now
 at_end s y f now entries p start all h =
-    let order = order_of entries in
-    let front = front_so_far s y f now entries p 0 start h in
-    let stands = subst (λ (z : System). StandsFor z (run_from s f order)) (sym h.replayed) (runs_stand s y f order start front.legal).stands in
-    record {
-      front = front;
-      over = λ u. ap (λ (us : List User). has_left s us u) (sym stands.users) ∙ nobody_left s now.users p (omega (arith, all)) h.place u;
-      ordered = h.serial;
-      few = omega (arith, ap calls_of h.recorded, (runs_stand s y f order start front.legal).few, orders_end s f order start.well_formed start.start front.legal);
-      replayed = h.replayed;
-      stands = stands;
-      lawful = runs_are_lawful s f order start.well_formed start.start.sound;
-    }
-
--- from boot
-pub whole_run : (s : Script) (now : System) (InOrder : List ℕ → Type 0) (entries : List Entry) → IsRunFrom s (boot_system s) (boot s) InOrder entries now → IsWholeRun s InOrder entries now
-whole_run s now InOrder entries h = record {
-  complete = record { legal = h.front.legal; over = h.over };
-  faithful = record { replayed = h.front.recorded; answered = h.front.answered };
-  ordered = h.ordered;
-  few = h.few;
-  replayed = h.replayed;
-  stands = h.stands;
-  lawful = h.lawful;
-}
+    run_of s y f now (IsSerialFrom s f) entries start (front_so_far s y f now entries p 0 start h) h.serial h.replayed (nobody_left s now.users p (omega (arith, all)) h.place)

@@ -29,6 +29,7 @@ use Rattle.psos_core.specs.Events.{MayHappen}
 use Rattle.psos_core.specs.Serving.{Start, IsFrontFrom, AreSettledFrom, IsRunFrom}
 use Rattle.psos_events.proofs.Replays.{runs_stand}
 use Rattle.psos_core.proofs.EventRun.{done}
+use Rattle.psos_core.proofs.WholeRuns.{front_of, run_of}
 
 -- ---- one event more at the end
 
@@ -233,11 +234,7 @@ picked_is us among slots x k n d empty all same many is tells some =
 pub front_here : (s : Script) (c : CoreState) (start : Start) (turns : List ℕ) → HasLed s c start turns → IsFrontFrom s start.system start.flat c.entries
 front_here s c start turns h =
     let d = done s c (record { start = start; turns = turns; after = h }) in
-    record {
-      legal = d.legal;
-      recorded = d.entries;
-      answered = ap (map answered_of) d.entries ∙ (stands_now s start.system start.flat c h.starts d).answered;
-    }
+    front_of s start.system start.flat c.entries h.starts d.legal d.entries
 
 -- also where the run stopped at an event
 pub front_on : (s : Script) (d : CoreState) (start : Start) (turns : List ℕ) (u : ℕ) → HasLed s d start turns ⊎ HasLed s d start (turns ++ u ∷ []) → IsFrontFrom s start.system start.flat d.entries
@@ -257,27 +254,14 @@ pub whole : (s : Script) (c : CoreState) (start : Start) (seed x : ℕ) (h : IsD
     → IsRunFrom s start.system start.flat (IsTurnsOrderFrom s start.system seed) c.entries (system_in c)
 whole s c start seed x h over =
     let y = start.system in
-    let f = start.flat in
-    let order = order_of c.entries in
-    let d = done s c (under_way s c start seed x h) in
-    let now = stands_now s y f c h.after.starts d in
-    let users : c.users ≡ (run_from s f order).users = d.users ∙ now.stands.users in
-    let left : system_in c ≡ replay_from s y order =
-    subst (λ (e : CoreState). ((u : ℕ) → has_left s e.users u ≡ false) → system_in e ≡ replay_from s y (order_of e.entries)) (sym h.after.state) (events_end s y f h.turns h.after.starts h.after.enabled) over in
-    record {
-      front = front_here s c start h.turns h.after;
-      over = λ u. ap (λ (us : List User). has_left s us u) (sym users) ∙ over u;
-      ordered = record {
-        turns = h.turns;
-        drawn = h.drawn;
-        over = λ u. ap (λ (e : CoreState). has_left s e.users u) (sym h.after.state) ∙ over u;
-        closes = ap (λ (e : CoreState). order_of e.entries) (sym h.after.state);
-      };
-      few = omega (arith, ap calls_of d.entries, (runs_stand s y f order h.after.starts d.legal).few, orders_end s f order h.after.starts.well_formed h.after.starts.start d.legal);
-      replayed = left;
-      stands = subst (λ (z : System). StandsFor z (run_from s f order)) (sym left) now.stands;
-      lawful = runs_are_lawful s f order h.after.starts.well_formed h.after.starts.start.sound;
-    }
+    let left : system_in c ≡ replay_from s y (order_of c.entries) =
+    subst (λ (e : CoreState). ((u : ℕ) → has_left s e.users u ≡ false) → system_in e ≡ replay_from s y (order_of e.entries)) (sym h.after.state) (events_end s y start.flat h.turns h.after.starts h.after.enabled) over in
+    run_of s y start.flat (system_in c) (IsTurnsOrderFrom s y seed) c.entries h.after.starts (front_here s c start h.turns h.after) (record {
+      turns = h.turns;
+      drawn = h.drawn;
+      over = λ u. ap (λ (e : CoreState). has_left s e.users u) (sym h.after.state) ∙ over u;
+      closes = ap (λ (e : CoreState). order_of e.entries) (sym h.after.state);
+    }) left over
 
 -- ---- one turn
 

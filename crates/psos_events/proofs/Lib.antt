@@ -13,3 +13,4 @@ pub mod EndState
 pub mod EventConditions
 pub mod EventBound
 pub mod TurnsOrder
+pub mod PhaseOrder

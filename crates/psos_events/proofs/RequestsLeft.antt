@@ -133,6 +133,20 @@ user_rises s x e p h =
     phase_is s z z.frames ∙ (ap (λ (n : ℕ). phase_at (user_script s n).phases (index_in z.frames z.answered)) on.number ∙ ap (λ (n : ℕ). phase_at own (index_in z.frames n)) on.count) in
     subst (AtLeast p) (sym same) later
 
+-- while it is in a body, its phase is that of the request that opened the first
+pub open_stays : (s : Script) (x : User) (e : Effect) → is_open (after s x e).frames ≡ true → phase_of s (after s x e) ≡ phase_of s x
+open_stays s x e h =
+    let z = after s x e in
+    let on = after_on s x e in
+    let own = (user_script s x.number).phases in
+    phase_is s z z.frames ∙ (ap (λ (n : ℕ). phase_at (user_script s n).phases (index_in z.frames z.answered)) on.number
+    ∙ (ap (phase_at own) (ap (index_in z.frames) on.count ∙ same_index x.frames z.frames x.answered h) ∙ sym (phase_is s x x.frames)))
+  where
+    same_index : (old new : List Frame) (n : ℕ) → is_open new ≡ true → index_in new (one_more old n) ≡ index_in old n
+    same_index old [] n none = absurd (true≢false (sym none))
+    same_index [] (q ∷ outer) n some = omega arith
+    same_index (r ∷ others) (q ∷ outer) n some = refl
+
 -- ---- the current phase
 
 both_least : (p : ℕ) (a b : Option ℕ) → AtLeast p (earlier a b) → AtLeast p a × AtLeast p b
@@ -149,7 +163,7 @@ least_of p (Some q) (Some r) h g = omega (arith, h, g)
 abbrev pub NoneEarlier : Script → ℕ → ℕ → User → Type 0
 NoneEarlier s p v x = AtLeast p (phase_of s x)
 
-each_least : (s : Script) (users : List User) (p : ℕ) → AtLeast p (current_phase s users) → (v : ℕ) (x : User) → slice_get users v ≡ Some x → NoneEarlier s p v x
+pub each_least : (s : Script) (users : List User) (p : ℕ) → AtLeast p (current_phase s users) → (v : ℕ) (x : User) → slice_get users v ≡ Some x → NoneEarlier s p v x
 each_least s [] p h v x here = absurd (none-some x here)
 each_least s (y ∷ ys) p h zero x here = subst (λ (z : User). AtLeast p (phase_of s z)) (same_Some y x here) (both_least p (phase_of s y) (current_phase s ys) h).0
 each_least s (y ∷ ys) p h (suc v) x here = each_least s ys p (both_least p (phase_of s y) (current_phase s ys) h).1 v x here
@@ -175,7 +189,7 @@ pub record AreNow (a b : Option ℕ) : Type 0 where
   pub first : a ≡ Some phase
   pub second : b ≡ Some phase
 
-now_parts : (a b : Option ℕ) → is_now a b ≡ true → AreNow a b
+pub now_parts : (a b : Option ℕ) → is_now a b ≡ true → AreNow a b
 now_parts None b h = absurd (true≢false (sym h))
 now_parts (Some p) None h = absurd (true≢false (sym h))
 now_parts (Some p) (Some q) h = record { phase = p; first = refl; second = ap (λ (n : ℕ). Some n) (sym (eqb-true p q h)) }

@@ -4,6 +4,7 @@ ghost use Rattle.psos_model.specs.Events.Serial.{EventsAreSerial, NeverStuck};
 ghost use Rattle.psos_events.specs.Committed.{CommittedWasFree, ClosesCommit, OthersCommitElsewhere};
 ghost use Rattle.psos_events.specs.Replays.{RunsStand};
 ghost use Rattle.psos_events.specs.Events.{BootIsCoreStart, EventsCommit, EventsCanHappen, EventsGoOn, EventsEnd};
+ghost use Rattle.psos_events.specs.Phases.{PhasesFollow};
 
 /// After every legal order of users from a start, and so after each of its requests, the levels of the replay stand
 /// for the flat state of the run, which is sound; what was answered is the same; and a request makes at most 44 calls
@@ -74,4 +75,10 @@ pub fn events_end()
 /// A seed has one order of turns at most (docs/program.md, "Turns").
 pub fn one_turns_order()
     ensures { OneTurnsOrder }
+{}
+
+/// In each legal order from a start, each request has a phase when it is asked, and all requests of a phase come before
+/// those of the next (docs/promises.md, "Runs").
+pub fn phases_follow()
+    ensures { PhasesFollow }
 {}

@@ -32,7 +32,7 @@ pub new_boxes-none : (users : ℕ) → new_boxes users 0 0 ≡ []
 unfolding new_boxes
 new_boxes-none users = refl
 
-new_boxes-length : (users i n : ℕ) → length (new_boxes users i n) ≡ n
+pub new_boxes-length : (users i n : ℕ) → length (new_boxes users i n) ≡ n
 unfolding new_boxes
 new_boxes-length users i zero = refl
 new_boxes-length users i (suc n) = omega (arith, new_boxes-length users (i + 1) n)

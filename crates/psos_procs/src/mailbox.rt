@@ -1,5 +1,5 @@
 // The mailbox of a process.
-ghost use Rattle.std.specs.Prelude.{◌≡◌, ◌==◌, ◌<◌, ◌≤◌, []};
+ghost use Rattle.std.specs.Prelude.{◌≡◌, ◌==◌, ◌<◌, ◌≤◌, [], length};
 ghost use Rattle.psos_calls.specs.Levels.Answers.{with_any_page};
 ghost use Rattle.psos_calls.specs.Locks.{part_of};
 ghost use Rattle.psos_procs.specs.Mailbox.{process_of, box_posted, box_drawn, act_box};
@@ -22,14 +22,14 @@ pub struct Mailbox {
 }
 
 impl Model for Mailbox {
-    ghost use Rattle.std.specs.Prelude.{◌≡◌, ◌<◌, ◌≤◌};
+    ghost use Rattle.std.specs.Prelude.{◌≡◌, ◌<◌, ◌≤◌, length};
     ghost use Rattle.psos_procs.specs.Mailbox as spec;
 
     ghost Value = { spec.Mailbox };
 
     ghost view = { λ b. record { number = b.number; users = b.users; words = b.words.items } };
 
-    ghost invariant = { λ b. (b.number < b.users) × (b.users ≤ 8) };
+    ghost invariant = { λ b. (b.number < b.users) × (b.users ≤ 8) × (length b.words.items ≤ 8) };
 }
 
 impl Mailbox {
@@ -44,6 +44,14 @@ impl Mailbox {
             users,
             words: ArrayVec::new(),
         }
+    }
+
+    /// The number of its user. It has at most eight words.
+    pub fn number(&self) -> u8
+        ensures number { result ≡ self.now.number }
+        ensures few { length self.now.words ≤ 8 }
+    {
+        self.number
     }
 
     /// Whether a call is of this mailbox, among those of so many users.
