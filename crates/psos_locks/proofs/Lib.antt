@@ -1,5 +1,13 @@
+pub mod ListPlaces
 pub mod Gripped
 pub mod PlaceOfLevel
 pub mod Settling
 pub mod Working
 pub mod Closing
+pub mod Served
+pub mod PhaseWork
+pub mod Meeting
+pub mod Phasing
+pub mod FirstUsers
+pub mod LeftLevels
+pub mod WholeRuns

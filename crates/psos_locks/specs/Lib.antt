@@ -1,5 +1,9 @@
+pub mod Ending
+pub mod Ends
 pub mod Faults
 pub mod Grips
+pub mod Opening
 pub mod Places
 pub mod Runs
+pub mod Stages
 pub mod Users

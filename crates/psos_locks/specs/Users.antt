@@ -1,5 +1,6 @@
 -- Users of a run of threads. States docs/levels.md, "Phases" and "Journal".
-use Rattle.std.specs.Prelude.{◌≡◌, ℕ, ◌+◌, ◌||◌, Bool, true, false, List, [], ◌∷◌, ◌++◌, length, replicate, slice_get, slice_index_or, Option, Some, None}
+use Rattle.std.specs.Prelude.{◌≡◌, ℕ, ◌+◌, ◌≤◌, ◌||◌, Bool, true, false, List, [], ◌∷◌, ◌++◌, length, replicate, slice_get, slice_index_or, Option, Some, None}
+use mathlib.Core.List.{IsPrefix}
 use Rattle.psos_calls.specs.declared.entry.Entry.{Entry}
 use Rattle.psos_calls.specs.Language.Script.{Script}
 use Rattle.psos_calls.specs.Language.User.{User}
@@ -37,19 +38,27 @@ past_of (Some receipt) = receipt.past
 abbrev pub past_in : List (Option (Known Entry)) → ℕ → List (Entry × ℕ)
 past_in receipts v = past_of (slice_index_or receipts v None)
 
+-- after these entries, user v, if there is one, asks nothing more of the phases before p
+abbrev pub ShowsPast : Script → ℕ → ℕ → List (Entry × ℕ) → Type 0
+ShowsPast s p v past = IsPast s p v (replay_in s (boot_system s) past).users
+
 -- by the receipts, nobody asks anything more of the phases before p
 abbrev pub ShowPast : Script → ℕ → List (Option (Known Entry)) → Type 0
-ShowPast s p receipts = (v : ℕ) → IsPast s p v (replay_in s (boot_system s) (past_in receipts v)).users
+ShowPast s p receipts = (v : ℕ) → ShowsPast s p v (past_in receipts v)
 
 -- what holds of a user between two requests
 pub record IsUser (s : Script) (u : OwnView) : Type 0 where
   pub own_is : IsOwn s u.side u.own
-  pub past : IsPast s u.phase u.side.number (replay_in s (boot_system s) u.side.past).users
+  pub past : ShowsPast s u.phase u.side.number u.side.past
   pub shown : ShowPast s u.phase u.receipts
 
 -- it has an open body, or asks anything more of its phase
 abbrev pub has_more : Script → OwnView → Bool
 has_more s u = is_open u.own.frames || is_now (phase_of s u.own) (Some u.phase)
+
+-- what it asks next is of no phase before its own
+abbrev pub IsAhead : Script → OwnView → Type 0
+IsAhead s u = (q : ℕ) → phase_of s u.own ≡ Some q → u.phase ≤ q
 
 -- ---- all users
 
@@ -90,6 +99,18 @@ pub record HasClosed (old : OwnView) (stamp : ℕ) (new : OwnView) : Type 0 wher
 pub record HasStopped (old : OwnView) (cause : StopCause) (new : OwnView) : Type 0 where
   pub rest : new ≡ record old { side = record old.side { told = told_after old.side.told (Some cause) }; trace = new.trace }
 
+-- ---- a phase
+
+-- a user was served in its phase: its number, the phase and what it knows of others are as before, and it has the entries that it had, and maybe more; it is halted, or has no open body and asks nothing more of the phase; and who was halted made no request
+pub record WorkedOn (s : Script) (old new : UserView) : Type 0 where
+  pub number : new.who.side.number ≡ old.who.side.number
+  pub phase : new.who.phase ≡ old.who.phase
+  pub receipts : new.who.receipts ≡ old.who.receipts
+  pub entries : IsPrefix (list_of old.who.side) (list_of new.who.side)
+  pub ahead : new.halted ≡ false → IsAhead s new.who
+  pub through : new.halted ≡ false → has_more s new.who ≡ false
+  pub kept : old.halted ≡ true → new ≡ record old { served = new.served }
+
 -- ---- the next phase
 
 -- it knows of each of these users what the user's own member knows, and its phase is the next one
@@ -97,3 +118,24 @@ pub record HasMet (users : List UserView) (old new : OwnView) : Type 0 where
   pub receipts_are : (v : ℕ) (u : UserView) → slice_get users v ≡ Some u → past_in new.receipts v ≡ u.who.side.past
   pub room : length new.receipts ≡ length old.receipts
   pub rest : new ≡ record old { phase = old.phase + 1; receipts = new.receipts }
+
+-- it is in the phase before the next one, is not halted, and has no open body and asks nothing more of its phase
+pub record IsThrough (s : Script) (next : ℕ) (u : UserView) : Type 0 where
+  pub phase : u.who.phase + 1 ≡ next
+  pub going : u.halted ≡ false
+  pub through : has_more s u.who ≡ false
+
+-- so are all these users
+abbrev pub AreThrough : Script → ℕ → List UserView → Type 0
+AreThrough s next users = (i : ℕ) (u : UserView) → slice_get users i ≡ Some u → IsThrough s next u
+
+-- each has met all of them, and is otherwise as it was
+abbrev pub AllMet : List UserView → List UserView → Type 0
+AllMet old new = (i : ℕ) (a b : UserView) → slice_get old i ≡ Some a → slice_get new i ≡ Some b → HasMet old a.who b.who × (b.halted ≡ a.halted) × (b.served ≡ a.served)
+
+-- ---- the end of all phases
+
+-- where nobody is halted, no user has an open body, and none asks anything more
+abbrev pub AreOver : Script → List UserView → Type 0
+AreOver s users = ((i : ℕ) (u : UserView) → slice_get users i ≡ Some u → u.halted ≡ false)
+    → (i : ℕ) (u : UserView) → slice_get users i ≡ Some u → (is_open u.who.own.frames ≡ false) × (phase_of s u.who.own ≡ None)

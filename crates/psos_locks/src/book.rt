@@ -1,10 +1,12 @@
 // The journal behind its lock.
-ghost use Rattle.std.specs.Prelude.{◌≡◌, ◌<◌, [], None, Some, length, unwrap_or, IfSome, IfNone};
+ghost use Rattle.std.specs.Prelude.{◌≡◌, ◌<◌, [], None, Some, length, unwrap_or, is_some, true, IfSome, IfNone};
 ghost use mathlib.Core.List.{IsPrefix};
 ghost use Rattle.psos_limits.specs.declared.TheConstants.{MOST_REQUESTS};
-ghost use Rattle.psos_journal.specs.Members.{named};
+ghost use Rattle.psos_journal.specs.Members.{entries_of, named};
 ghost use Rattle.psos_journal.specs.Views.{list_of, told_after};
 ghost use Rattle.psos_histories.specs.Names.{members_for};
+ghost use Rattle.psos_locks.specs.Ending.{MayHaveStopped};
+ghost use Rattle.psos_locks.specs.Faults.{IsShared};
 ghost use Rattle.psos_locks.specs.Grips.{slots_of};
 ghost use Rattle.psos_locks.specs.Places.{HasFailed};
 ghost use Rattle.psos_locks.specs.Runs.{IsRun, Knows, CanPut, HasPut};
@@ -16,7 +18,7 @@ use crate::part::Part;
 use crate::run::Run;
 use psos_calls::Entry;
 use psos_io::Store;
-use psos_journal::{FaultsOf, Journal, Member, Receipt, StopCause};
+use psos_journal::{Entries, FaultsOf, Journal, Member, Receipt, StopCause};
 use std::alloc::Global;
 use std::marker::Model;
 use std::sync::ledger::Share;
@@ -47,6 +49,21 @@ impl<T: Run> Model for Book<T> {
 }
 
 impl<T: Run> Book<T> {
+    /// The journal of a run that begins, and its side of the ledger of store faults, in which there is none.
+    pub fn new(journal: Journal<T, Entry>, faults: Share<FaultsOf<T>>) -> Book<T>
+        requires journal { journal ≡ record {
+          entries = [];
+          room = MOST_REQUESTS;
+          members = members_for (length T.script.users);
+          stopped = None;
+          left = None;
+        } }
+        requires faults { faults.parts ≡ 1 }
+        ensures { result ≡ journal }
+    {
+        Book { journal, faults }
+    }
+
     /// The member behind a lock has the entries that name it. Nothing changes.
     pub fn meet<K: Part>(&mut self, held: &mut Held<T, K>)
         ensures same { (self.new ≡ self.old) × (held.new ≡ held.old) }
@@ -60,6 +77,7 @@ impl<T: Run> Book<T> {
         requires latest { list_of member.old ≡ [] → member.old.past ≡ [] }
         ensures same { (self.new ≡ self.old) × (member.new ≡ member.old) }
         ensures knows { Knows member.old self.old.entries }
+        ensures told { member.old.told ≡ true → self.old.stopped ≡ Some StopCause.Store }
         ensures run { IsRun T.script self.old.entries }
         ensures limits { (self.old.room ≡ MOST_REQUESTS) × (self.old.members ≡ members_for (length T.script.users)) }
     {
@@ -100,6 +118,33 @@ impl<T: Run> Book<T> {
         let first = self.journal.stop(cause);
         let _first = self.journal.tell(member);
         first
+    }
+
+    /// Stops the run for want of memory, where it was not stopped before.
+    pub(crate) fn give_up(&mut self)
+        ensures kept { MayHaveStopped self.old self.new }
+        ensures stopped { self.new.stopped ≡ None → ⊥ }
+    {
+        self.journal.stop(StopCause::Memory);
+    }
+
+    /// Whether the run was stopped.
+    pub(crate) fn is_stopped(&self) -> bool
+        ensures { result ≡ is_some self.now.stopped }
+    {
+        self.journal.stopped().is_some()
+    }
+
+    /// The entries, why the run was stopped, if it was, and this side of the ledger of store faults. It takes no memory.
+    pub fn end(self, alloc: Global) -> (Entries<Entry>, Option<StopCause>, Share<FaultsOf<T>>)
+        ensures entries { result.0 ≡ entries_of self.entries }
+        ensures stopped { result.1 ≡ self.stopped }
+        ensures run { IsRun T.script self.entries }
+        ensures faults { IsShared self.stopped result.2.amount }
+    {
+        let Book { journal, faults } = self;
+        let stopped = journal.stopped();
+        (journal.into_entries(Vec::new(alloc)), stopped, faults)
     }
 
     /// Puts the entry of a request that closes, which names its user and the locks that it holds; none of them is

@@ -1,5 +1,5 @@
 // Level 7, with the ledger of its store's faults.
-ghost use Rattle.std.specs.Prelude.{◌≡◌, ◌<◌};
+ghost use Rattle.std.specs.Prelude.{◌≡◌, ◌<◌, ◌≤◌};
 ghost use Rattle.psos_io.specs.Causes.{Rose};
 
 use crate::run::Run;
@@ -31,6 +31,27 @@ impl<T: Run, B: Store> Model for CountedPages<T, B> {
 }
 
 impl<T: Run, B: Store> CountedPages<T, B> {
+    /// Level 7 when a run begins, before a fault is counted.
+    pub fn new(pages: Pages<B>, faults: Book<FaultsOf<T>>) -> CountedPages<T, B>
+        requires start { B.faults pages.store ≡ T.faults_before }
+        requires none { faults.total ≡ 0 }
+        ensures { result.0 ≡ pages }
+    {
+        CountedPages { pages, faults }
+    }
+
+    /// The level when a run ends. Where a fault was counted on the other side, the store's count is above the one that
+    /// the run began with.
+    pub fn end(self, share: &mut Share<FaultsOf<T>>) -> Pages<B>
+        ensures pages { result ≡ self.0 }
+        ensures later { T.faults_before ≤ B.faults self.0.store }
+        ensures rose { 0 < share.old.amount → Rose T.faults_before (B.faults self.0.store) }
+    {
+        let CountedPages { pages, mut faults } = self;
+        faults.audit(share);
+        pages
+    }
+
     /// A fault of the store is counted on both sides.
     pub(crate) fn count(&mut self, share: &mut Share<FaultsOf<T>>)
         requires failed { Rose T.faults_before (B.faults self.old.0.store) }

@@ -8,8 +8,11 @@ ghost use Rattle.psos_calls.specs.Language.Script.{IsWellFormed};
 ghost use Rattle.psos_calls.specs.Locks.{lock_of, part_of};
 ghost use Rattle.psos_model.specs.Replay.{boot_system};
 ghost use Rattle.psos_core.specs.Faults.{CanFault};
+ghost use Rattle.psos_journal.specs.Views.{new_side};
 ghost use Rattle.psos_histories.specs.Pieces.{act_piece, can_piece};
+ghost use Rattle.psos_histories.specs.Names.{member_of};
 ghost use Rattle.psos_histories.specs.Grips.{IsFreeGrip, IsReplayed};
+ghost use Rattle.psos_locks.specs.Opening.{IsAtBoot};
 
 use crate::counted_pages::CountedPages;
 use crate::part::Part;
@@ -70,6 +73,32 @@ impl<T: Run, B: Store> Held<T, CountedPages<T, B>> {
 }
 
 impl<T: Run, K: Part> Held<T, K> {
+    /// What stands behind a lock before the first entry: what lies under it at boot, and the lock's member.
+    pub(crate) fn new(state: K, member: Member<T, Entry>) -> Held<T, K>
+        requires fits { K.fits state (length T.script.users) }
+        requires at_boot { IsAtBoot T.script (K.lock state) (K.piece state) }
+        requires member { member ≡ new_side (member_of (length T.script.users) (K.lock state)) }
+        ensures { result ≡ (state, member, false) }
+    {
+        Held {
+            state,
+            member,
+            broken: false,
+        }
+    }
+
+    /// Its state. What it knows goes.
+    pub(crate) fn into_state(self) -> K
+        ensures { result ≡ self.0 }
+    {
+        let Held {
+            state,
+            member: _,
+            broken: _,
+        } = self;
+        state
+    }
+
     /// Whether it is broken. Where it is not, it is as its member's calls have left it.
     pub fn is_broken(&self) -> bool
         ensures broken { result ≡ self.now.2 }

@@ -1,6 +1,6 @@
 // A user of a run of threads.
 ghost use Rattle.std.specs.Prelude.{◌≡◌};
-ghost use Rattle.psos_locks.specs.Users.{has_more};
+ghost use Rattle.psos_locks.specs.Users.{has_more, IsAhead};
 
 use crate::own::Own;
 use crate::run::Run;
@@ -28,7 +28,8 @@ impl<T: Run> UserState<T> {
     /// Whether the user has an open body, or asks anything more of its own phase.
     pub fn left(&self, script: &Script) -> bool
         requires { script.now ≡ T.script }
-        ensures { result ≡ has_more T.script self.now.who }
+        ensures more { result ≡ has_more T.script self.now.who }
+        ensures ahead { IsAhead T.script self.now.who }
     {
         self.own.has_more(script)
     }
