@@ -1,22 +1,20 @@
 -- How a command ends, by what it came to.
 use Rattle.std.proofs.Common.{◌≡◌, ℕ, ◌<◌, ◌≤◌, List, [], ◌++◌, length, Option, Some, None, ◌⊎◌, inl, inr, sym, ap, ◌∙◌, subst, arith, append-nil}
-use Rattle.std.specs.Prelude.{Result, Ok, Err, IfOk, IfErr, IfSome, IsSomeAnd}
+use Rattle.std.specs.Prelude.{IfSome, IsSomeAnd, option_map}
 use Rattle.std.specs.Io.KnownBytes.{Consumes, IsAtEnd, Keeps}
 use Rattle.psos_io.specs.Causes.{Rose}
 use Rattle.psos_calls.specs.declared.entry.Entry.{Entry}
-use Rattle.psos_calls.specs.Language.Script.{Script, IsWellFormed}
+use Rattle.psos_calls.specs.Language.Script.{Script}
 use Rattle.psos_model.specs.Text.Spelling.{IsScript}
 use Rattle.psos_model.specs.Run.{IsComplete}
 use Rattle.psos_model.specs.Replay.{System, order_of}
 use Rattle.psos_script.proofs.Outcome.{one_script}
-use Rattle.psos_script.specs.declared.fault.ReadFault.{ReadFault}
-use Rattle.psos_script.specs.declared.fault.ReadFault.TheVariants as R
-use Rattle.psos_script.specs.Answers.{IsFirst}
-use Rattle.psos_script.specs.Answers.{SpellsNone as ReadsNone}
-use Rattle.psos_script.specs.Fault.{fault_of}
+use Rattle.psos_script.specs.declared.fault.ScriptFault.{ScriptFault}
+use Rattle.psos_core.specs.declared.levels.Levels.{Levels}
+use Rattle.psos_core.specs.System.{system_of}
 use Rattle.psos_top.specs.declared.command.Command.{Command}
-use Rattle.psos_top.specs.Outcome.{Stream, Given, Holds, HoldsNone, SpellsNone, WasRead, IsRefused, IsRunStatus, HasNoRun, IsNoRun, IsBroken, IsUnfinished, EndsRun, EndsOnFault, Ends, HandsStoreBack}
-use Rattle.psos_top.proofs.FirstFault.{stands}
+use Rattle.psos_top.specs.declared.outcome.Outcome.{Outcome}
+use Rattle.psos_top.specs.Outcome.{Stream, Given, Holds, HoldsNone, SpellsNone, WasRead, Writes, IsFaulty, IsRefused, IsRunStatus, HasNoRun, IsNoRun, IsBroken, IsUnfinished, RunEnds, RanToEnd, Ends, StoreEnds, given_by, fault_line, read_fault_text}
 use Rattle.psos_top.specs.Orders.{IsRunBy}
 
 -- ---- what an input holds
@@ -53,8 +51,7 @@ was_read (Some xs) (Some rest) bytes s read end is =
 -- ---- the ends
 
 -- the bytes are no script
-refused_ends : (command : Command) (input out : Stream) (given : Given) → given.status ≡ 2
-    → IsRefused input.before out.before out.now out.faults_before out.faults_now
+refused_ends : (command : Command) (input out : Stream) (given : Given) → given.status ≡ 2 → IsRefused input out
     → IsNoRun given.entries given.left → input.faults_before ≤ input.faults_now → out.faults_before ≤ out.faults_now → Ends command input out given
 refused_ends command input out given is refused none input_later out_later = record {
   which = inr (inl is);
@@ -64,9 +61,30 @@ refused_ends command input out given is refused none input_later out_later = rec
   read_fault_line = λ h. absurd (omega (arith, is, h));
   write_fault = λ h. absurd (omega (arith, is, h));
   cut = λ h. absurd (omega (arith, is, h));
+  stopped = λ h. absurd (omega (arith, is, h));
   memory = λ h. absurd (omega (arith, is, h));
   no_script = record { refuses = λ held calm. inl is };
-  complete = record { runs = λ s held calm quiet. absurd (not_held input.before s held refused.none) };
+  complete = record { runs = λ s held calm quiet. absurd (not_held input.before s held refused.faulty.none) };
+  none = λ h. none;
+  input_later = input_later;
+  out_later = out_later;
+}
+
+-- the input failed
+unread_ends : (command : Command) (input out : Stream) (given : Given) → given.status ≡ 3 → Rose input.faults_before input.faults_now → Writes out read_fault_text
+    → IsNoRun given.entries given.left → input.faults_before ≤ input.faults_now → out.faults_before ≤ out.faults_now → Ends command input out given
+unread_ends command input out given is rose text none input_later out_later = record {
+  which = inr (inr (inl is));
+  printed = λ h. absurd (omega (arith, is, h));
+  refused = λ h. absurd (omega (arith, is, h));
+  read_fault = λ h. rose;
+  read_fault_line = λ h. text;
+  write_fault = λ h. absurd (omega (arith, is, h));
+  cut = λ h. absurd (omega (arith, is, h));
+  stopped = λ h. absurd (omega (arith, is, h));
+  memory = λ h. absurd (omega (arith, is, h));
+  no_script = record { refuses = λ held calm. absurd (calm rose) };
+  complete = record { runs = λ s held calm quiet. absurd (calm rose) };
   none = λ h. none;
   input_later = input_later;
   out_later = out_later;
@@ -76,33 +94,51 @@ refused_ends command input out given is refused none input_later out_later = rec
 memory_ends : (command : Command) (input out : Stream) (given : Given) → given.status ≡ 6 → Keeps out.before out.now
     → IsNoRun given.entries given.left → input.faults_before ≤ input.faults_now → out.faults_before ≤ out.faults_now → Ends command input out given
 memory_ends command input out given is keeps none input_later out_later = record {
-  which = inr (inr (inr (inr is)));
+  which = inr (inr (inr (inr (inr is))));
   printed = λ h. absurd (omega (arith, is, h));
   refused = λ h. absurd (omega (arith, is, h));
   read_fault = λ h. absurd (omega (arith, is, h));
   read_fault_line = λ h. absurd (omega (arith, is, h));
   write_fault = λ h. absurd (omega (arith, is, h));
   cut = λ h. absurd (omega (arith, is, h));
+  stopped = λ h. absurd (omega (arith, is, h));
   memory = λ h. inl keeps;
   no_script = record { refuses = λ held calm. inr is };
-  complete = record { runs = λ s held calm quiet. inr is };
+  complete = record { runs = λ s held calm quiet. inr (inr is) };
   none = λ h. none;
   input_later = input_later;
   out_later = out_later;
 }
 
--- the script was read, and a run of it was printed, cut, or out of memory
-run_ends : (command : Command) (input out : Stream) (given : Given) (s : Script) → WasRead input.before input.now s
-    → EndsRun command out given s → input.faults_before ≤ input.faults_now
-    → Ends command input out given
+-- the statuses of a run
+abbrev IsEnd : ℕ → Type 0
+IsEnd status = (status ≡ 0) ⊎ (status ≡ 4) ⊎ (status ≡ 5) ⊎ (status ≡ 6)
+
+status_is : (status : ℕ) → IsEnd status → IsRunStatus status
+status_is status (inl zero) = inl zero
+status_is status (inr (inl four)) = inr (inr (inr (inl four)))
+status_is status (inr (inr (inl five))) = inr (inr (inr (inr (inl five))))
+status_is status (inr (inr (inr six))) = inr (inr (inr (inr (inr six))))
+
+-- no other number is one
+no_other : (status n : ℕ) → IsEnd status → (n ≡ 0 → ⊥) → (n ≡ 4 → ⊥) → (n ≡ 5 → ⊥) → (n ≡ 6 → ⊥) → status ≡ n → ⊥
+no_other status n (inl zero) not_0 not_4 not_5 not_6 is = not_0 (omega (arith, zero, is))
+no_other status n (inr (inl four)) not_0 not_4 not_5 not_6 is = not_4 (omega (arith, four, is))
+no_other status n (inr (inr (inl five))) not_0 not_4 not_5 not_6 is = not_5 (omega (arith, five, is))
+no_other status n (inr (inr (inr six))) not_0 not_4 not_5 not_6 is = not_6 (omega (arith, six, is))
+
+-- the script was read, and a run of it was printed, cut, stopped for the store, or out of memory
+pub run_ends : (command : Command) (input out : Stream) (given : Given) (s : Script) → WasRead input.before input.now s
+    → RunEnds command out given s → input.faults_before ≤ input.faults_now → Ends command input out given
 run_ends command input out given s read run input_later = record {
-  which = status run.which;
+  which = status_is given.status run.which;
   printed = λ h. (s, record { read = read; run = run.run (inl h); text = run.done h });
-  refused = λ h. absurd (other 2 run.which (omega arith) (omega arith) (omega arith) h);
-  read_fault = λ h. absurd (other 3 run.which (omega arith) (omega arith) (omega arith) h);
-  read_fault_line = λ h. absurd (other 3 run.which (omega arith) (omega arith) (omega arith) h);
+  refused = λ h. absurd (no_other given.status 2 run.which (omega arith) (omega arith) (omega arith) (omega arith) h);
+  read_fault = λ h. absurd (no_other given.status 3 run.which (omega arith) (omega arith) (omega arith) (omega arith) h);
+  read_fault_line = λ h. absurd (no_other given.status 3 run.which (omega arith) (omega arith) (omega arith) (omega arith) h);
   write_fault = run.cause;
   cut = λ h. (s, record { read = read; run = run.run (inr h); text = run.cut h });
+  stopped = λ h. record { script = s; read = read; cause = run.store h; text = run.stopped h };
   memory = λ h. front (run.memory h);
   no_script = record { refuses = λ none calm. absurd (not_none input.before s none read.spelled) };
   complete = record { runs = λ t held calm quiet. whole t held quiet run.which };
@@ -111,16 +147,6 @@ run_ends command input out given s read run input_later = record {
   out_later = run.later;
 }
   where
-    status : (given.status ≡ 0) ⊎ (given.status ≡ 4) ⊎ (given.status ≡ 6) → IsRunStatus given.status
-    status (inl zero) = inl zero
-    status (inr (inl four)) = inr (inr (inr (inl four)))
-    status (inr (inr six)) = inr (inr (inr (inr six)))
-
-    other : (n : ℕ) → (given.status ≡ 0) ⊎ (given.status ≡ 4) ⊎ (given.status ≡ 6) → (n ≡ 0 → ⊥) → (n ≡ 4 → ⊥) → (n ≡ 6 → ⊥) → given.status ≡ n → ⊥
-    other n (inl zero) not_0 not_4 not_6 is = not_0 (omega (arith, zero, is))
-    other n (inr (inl four)) not_0 not_4 not_6 is = not_4 (omega (arith, four, is))
-    other n (inr (inr six)) not_0 not_4 not_6 is = not_6 (omega (arith, six, is))
-
     front : Keeps out.before out.now ⊎ IsBroken command out.before out.now s → IsUnfinished command input.before input.now out.before out.now
     front (inl nothing) = inl nothing
     front (inr broken) = inr (s, read, broken)
@@ -131,50 +157,37 @@ run_ends command input out given s read run input_later = record {
         let P : Script → Type 0 = λ x. IsComplete x (order_of given.entries) in
         subst P (same_script input.before t s held read.spelled) (order_complete command s given.entries given.left (run.run (inl zero)))
 
-    whole : (t : Script) → Holds t input.before → (Rose out.faults_before out.faults_now → ⊥) → (given.status ≡ 0) ⊎ (given.status ≡ 4) ⊎ (given.status ≡ 6)
-        → ((given.status ≡ 0) × IsComplete t (order_of given.entries)) ⊎ (given.status ≡ 6)
+    whole : (t : Script) → Holds t input.before → (Rose out.faults_before out.faults_now → ⊥) → (given.status ≡ 0) ⊎ (given.status ≡ 4) ⊎ (given.status ≡ 5) ⊎ (given.status ≡ 6) → RanToEnd given t
     whole t held quiet (inl zero) = inl (zero, completed t held zero)
     whole t held quiet (inr (inl four)) = absurd (quiet (run.cause four))
-    whole t held quiet (inr (inr six)) = inr six
+    whole t held quiet (inr (inr (inl five))) = inr (inl (five, run.store five))
+    whole t held quiet (inr (inr (inr six))) = inr (inr six)
 
     missing : HasNoRun given.status → IsNoRun given.entries given.left
-    missing (inl one) = absurd (other 1 run.which (omega arith) (omega arith) (omega arith) one)
-    missing (inr (inl two)) = absurd (other 2 run.which (omega arith) (omega arith) (omega arith) two)
-    missing (inr (inr (inl three))) = absurd (other 3 run.which (omega arith) (omega arith) (omega arith) three)
-    missing (inr (inr (inr six))) = run.none six
+    missing (inl one) = absurd (no_other given.status 1 run.which (omega arith) (omega arith) (omega arith) (omega arith) one)
+    missing (inr (inl two)) = absurd (no_other given.status 2 run.which (omega arith) (omega arith) (omega arith) (omega arith) two)
+    missing (inr (inr (inl three))) = absurd (no_other given.status 3 run.which (omega arith) (omega arith) (omega arith) (omega arith) three)
+    missing (inr (inr (inr stopped))) = run.none stopped
 
--- ---- behind the reader
+-- ---- by what was read
 
--- these bytes were read of an input, and all of it where they are few
-pub record IsRead (before now : Option (List ℕ)) (bytes : List ℕ) : Type 0 where
-  pub consumes : Consumes before now bytes
-  pub end : length bytes < 1048577 → IsAtEnd now
+pub no_script_ends : (command : Command) (input out : Stream) (given : Given) (fault : ScriptFault) → given.status ≡ 2 → IsFaulty input.before fault.line fault.cause → Writes out (fault_line fault.line fault.cause)
+    → IsNoRun given.entries given.left → input.faults_before ≤ input.faults_now → out.faults_before ≤ out.faults_now → Ends command input out given
+no_script_ends command input out given fault is faulty text none input_later out_later =
+    refused_ends command input out given is (record { line = fault.line; cause = fault.cause; faulty = faulty; text = text }) none input_later out_later
 
-pub read_same : (before now : Option (List ℕ)) (bytes seen : List ℕ) → seen ≡ bytes → Consumes before now bytes → (length bytes < 1048577 → IsAtEnd now) → IsRead before now seen
-read_same before now bytes seen same consumes end = subst (IsRead before now) (sym same) (record { consumes = consumes; end = end })
+-- without a script, and without levels
+pub no_run_given : {B : Type 0} (entries : List Entry) (levels : Option (Levels B)) → IsNoRun entries levels → IsNoRun entries (option_map (λ (l : Levels B). system_of l) levels)
+no_run_given {B} entries levels none = record { entries-none = none.entries-none; left-none = ap (λ o. option_map (λ (l : Levels B). system_of l) o) none.left-none }
 
--- the script was run, or the fault was told
-pub read_ends : (command : Command) (input out : Stream) (given : Given) (bytes : List ℕ) (read : Result Script ReadFault) → IsRead input.before input.now bytes
-    → IfOk read (λ s. IsScript bytes s) → IfErr read (λ e. IsFirst (fault_of bytes) e) → IfErr read (λ e. ReadsNone bytes e)
-    → IfOk read (EndsRun command out given) → IfErr read (EndsOnFault out given) → input.faults_before ≤ input.faults_now → Ends command input out given
-read_ends command input out given bytes (Ok s) is found first none ran fault later =
-    run_ends command input out given s (was_read input.before input.now bytes s is.consumes is.end found) ran later
-read_ends command input out given bytes (Err (R.Script f)) is found first none ran fault later =
-    let stood = stands input.before input.now bytes f.line f.cause is.consumes is.end first none in
-    refused_ends command input out given fault.status-is (record { line = f.line; cause = f.cause; first = stood.first; none = stood.none; text = fault.told }) fault.none later fault.later
-read_ends command input out given bytes (Err (R.Memory e)) is found first none ran fault later =
-    memory_ends command input out given fault.status-is fault.told fault.none later fault.later
+-- ---- by how many calls of the store had failed before
 
--- a script that was read is well formed
-pub read_formed : (bytes : List ℕ) (read : Result Script ReadFault) → IfOk read (λ s. IsScript bytes s) → IfOk read (λ s. IsWellFormed s)
-read_formed bytes (Ok s) found = found.well_formed
-read_formed bytes (Err e) found = tt
+pub ends_since : {B : Type 0} (command : Command) (input out : Stream) (outcome : Outcome B) (start before : ℕ) → start ≡ before → Ends command input out (given_by start outcome) → Ends command input out (given_by before outcome)
+ends_since command input out outcome start before same h =
+    let P : ℕ → Type 0 = λ n. Ends command input out (given_by n outcome) in
+    subst P same h
 
--- the store is handed back of a script alone
-pub read_back : {B : Type 0} (before now out_before out_now : Option (List ℕ)) (bytes : List ℕ) (status : ℕ) (store : Option B) (read : Result Script ReadFault) → IsRead before now bytes
-    → IfOk read (λ s. IsScript bytes s) → IfErr read (λ e. store ≡ None) → IfSome store (λ b. status ≡ 6) → (status ≡ 6 → store ≡ None → Keeps out_before out_now)
-    → HandsStoreBack before now out_before out_now status store
-read_back before now out_before out_now bytes status None read is found gone six unwritten = record { only = tt; always = unwritten }
-read_back before now out_before out_now bytes status (Some b) (Ok s) is found gone six unwritten =
-    record { only = (six, s, was_read before now bytes s is.consumes is.end found); always = unwritten }
-read_back before now out_before out_now bytes status (Some b) (Err e) is found gone six unwritten = absurd cc
+pub store_since : {B : Type 0} (faults : B → ℕ) (input out : Stream) (outcome : Outcome B) (start before : ℕ) → start ≡ before → StoreEnds faults start input out outcome → StoreEnds faults before input out outcome
+store_since faults input out outcome start before same h =
+    let P : ℕ → Type 0 = λ n. StoreEnds faults n input out outcome in
+    subst P same h

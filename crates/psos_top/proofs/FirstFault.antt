@@ -1,6 +1,5 @@
 -- The first fault of what was read is the first fault of the whole input.
 use Rattle.std.proofs.Common.{◌≡◌, ℕ, ◌<◌, ◌≤◌, Bool, cond, List, [], ◌++◌, length, Option, Some, None, sym, ap, ◌∙◌, subst, arith, inl, inr, ◌⊎◌, append-nil, length-append}
-use Rattle.std.specs.Prelude.{IfSome}
 use Rattle.std.specs.Io.KnownBytes.{Consumes, IsAtEnd}
 use Rattle.std.proofs.lemmas.Bool.{lt-ltb, cases_lt}
 use Rattle.psos_calls.specs.Language.Script.{Script}
@@ -9,17 +8,12 @@ use Rattle.psos_script.specs.declared.cause.Cause.{Cause}
 use Rattle.psos_script.specs.declared.cause.Cause.TheVariants as C
 use Rattle.psos_script.specs.Fault.{fault_of, fault_from}
 use Rattle.psos_text.specs.Lines.{lines_of}
-use Rattle.psos_top.specs.Outcome.{SpellsNone}
+use Rattle.psos_top.specs.Outcome.{IsFaulty}
 
 -- what is too long is that before all else
 too_long : (xs : List ℕ) → 1048577 ≤ length xs → fault_of xs ≡ Some (0, C.InputTooLong)
 unfolding fault_of
 too_long xs h = ap (λ (b : Bool). cond b (Some (0, C.InputTooLong)) (fault_from 1 [] (lines_of xs))) (lt-ltb 1048576 (length xs) (omega arith))
-
--- the first fault of an input, of which these bytes were read
-pub record Stands (input : Option (List ℕ)) (line : ℕ) (cause : Cause) : Type 0 where
-  pub first : IfSome input (λ bytes. fault_of bytes ≡ Some (line, cause))
-  pub none : SpellsNone input
 
 whole : (xs bytes rest : List ℕ) (line : ℕ) (cause : Cause) → xs ≡ bytes ++ rest → (length bytes < 1048577 → rest ≡ []) → fault_of bytes ≡ Some (line, cause)
     → ((s : Script) → IsScript bytes s → ⊥) → (fault_of xs ≡ Some (line, cause)) × ((s : Script) → IsScript xs s → ⊥)
@@ -33,8 +27,9 @@ whole xs bytes rest line cause is end fault none = by_length (cases_lt (length b
         let long : 1048577 ≤ length xs = omega (arith, ap (λ (ys : List ℕ). length ys) is, length-append bytes rest) in
         (too_long xs long ∙ sym (too_long bytes many) ∙ fault, λ s h. absurd (omega (arith, h.short)))
 
+-- the first fault of an input, of which these bytes were read
 pub stands : (input now : Option (List ℕ)) (bytes : List ℕ) (line : ℕ) (cause : Cause) → Consumes input now bytes → (length bytes < 1048577 → IsAtEnd now)
-    → fault_of bytes ≡ Some (line, cause) → ((s : Script) → IsScript bytes s → ⊥) → Stands input line cause
+    → fault_of bytes ≡ Some (line, cause) → ((s : Script) → IsScript bytes s → ⊥) → IsFaulty input line cause
 stands None now bytes line cause read end fault none = record { first = tt; none = tt }
 stands (Some xs) None bytes line cause read end fault none = absurd read
 stands (Some xs) (Some rest) bytes line cause read end fault none =

@@ -1,4 +1,5 @@
 pub mod FirstFault
 pub mod RunPrinting
 pub mod CommandEnds
+pub mod ReadScripts
 pub mod OptionPairs

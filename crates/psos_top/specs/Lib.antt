@@ -1,4 +1,5 @@
 pub mod Words
 pub mod Orders
 pub mod Outcome
+pub mod Runs
 pub mod Program

@@ -14,8 +14,6 @@ use Rattle.psos_print.specs.declared.fault.PrintFault.{PrintFault}
 use Rattle.psos_print.specs.declared.fault.PrintFault.TheVariants as faults
 use Rattle.psos_print.specs.Positions.{entries_text}
 use Rattle.psos_script.specs.declared.cause.Cause.{Cause}
-use Rattle.psos_script.specs.declared.fault.ReadFault.{ReadFault}
-use Rattle.psos_script.specs.declared.fault.ReadFault.TheVariants as R
 use Rattle.psos_script.specs.Fault.{fault_of}
 use Rattle.psos_script.specs.CauseText.{cause_text}
 use Rattle.psos_core.specs.declared.levels.Levels.{Levels}
@@ -37,14 +35,22 @@ pub record Stream : Type 0 where
 abbrev pub stream : {S : Type 0} → (S → Option (List ℕ)) → (S → ℕ) → S → S → Stream
 stream bytes faults before now = record { before = bytes before; now = bytes now; faults_before = faults before; faults_now = faults now }
 
--- what a command gives
+-- what a command gives, and how many calls of the store had failed before it and after it
 pub record Given : Type 0 where
   pub status : ℕ
   pub entries : List Entry
   pub left : Option System
+  pub store_before : ℕ
+  pub store_now : ℕ
 
-abbrev pub given_by : {B : Type 0} → Outcome B → Given
-given_by {B} outcome = record { status = outcome.status; entries = outcome.entries; left = option_map (λ (l : Levels B). system_of l) outcome.levels }
+abbrev pub given_by : {B : Type 0} → ℕ → Outcome B → Given
+given_by {B} start outcome = record {
+  status = outcome.status;
+  entries = outcome.entries;
+  left = option_map (λ (l : Levels B). system_of l) outcome.levels;
+  store_before = start;
+  store_now = outcome.store_faults;
+}
 
 -- ---- the lines in place of a run
 
@@ -54,6 +60,9 @@ fault_line line cause = codes "line " ++ (decimal line ++ (codes ": " ++ (cause_
 
 abbrev pub read_fault_text : List ℕ
 read_fault_text = codes "read fault\n"
+
+abbrev pub stopped_text : List ℕ
+stopped_text = codes "stopped store\n"
 
 abbrev pub usage_text : List ℕ
 usage_text = codes "usage: psos COMMAND [OPTION N]...\n"
@@ -81,13 +90,21 @@ pub record Wrote (before now : Option (List ℕ)) (faults_before faults_now : �
   pub front : AppendsFront before now text
   pub whole : Appends before now text ⊎ Rose faults_before faults_now
 
--- status 2: the bytes, where they are known, are no script, and the line of their first fault was written, or a front of it and a write failed
-pub record IsRefused (input before now : Option (List ℕ)) (faults_before faults_now : ℕ) : Type 0 where
-  pub line : ℕ
-  pub cause : Cause
+-- the same, seen by a stream
+abbrev pub Writes : Stream → List ℕ → Type 0
+Writes out text = Wrote out.before out.now out.faults_before out.faults_now text
+
+-- the bytes of the input, where they are known, are no script, and this is the cause on the least faulty line
+pub record IsFaulty (input : Option (List ℕ)) (line : ℕ) (cause : Cause) : Type 0 where
   pub first : IfSome input (λ bytes. fault_of bytes ≡ Some (line, cause))
   pub none : SpellsNone input
-  pub text : Wrote before now faults_before faults_now (fault_line line cause)
+
+-- status 2: the bytes are no script, and the line of their first fault was written, or a front of it and a write failed
+pub record IsRefused (input out : Stream) : Type 0 where
+  pub line : ℕ
+  pub cause : Cause
+  pub faulty : IsFaulty input.before line cause
+  pub text : Writes out (fault_line line cause)
 
 -- status 0: the script was read, a whole run was made, and its output was written in whole
 pub record IsPrinted (command : Command) (input_before input_now before now : Option (List ℕ)) (entries : List Entry) (left : Option System) (s : Script) : Type 0 where
@@ -122,52 +139,46 @@ abbrev pub LeavesFront : Option (List ℕ) → Option (List ℕ) → Script → 
 LeavesFront before now s entries (faults.Memory e) = AppendsFront before now (entries_text s entries)
 LeavesFront before now s entries faults.Write = AppendsFront before now (printed s entries)
 
--- how a run of a script ends: printed, cut, or out of memory
-pub record RunEnds (command : Command) (before now : Option (List ℕ)) (faults_before faults_now : ℕ) (s : Script) (status : ℕ) (entries : List Entry) (left : Option System) : Type 0 where
-  pub which : (status ≡ 0) ⊎ (status ≡ 4) ⊎ (status ≡ 6)
-  pub run : (status ≡ 0) ⊎ (status ≡ 4) → IsSomeAnd left (IsRunBy command s entries)
-  pub done : status ≡ 0 → Appends before now (output s (order_of entries))
-  pub cut : status ≡ 4 → AppendsFront before now (output s (order_of entries))
-  pub cause : status ≡ 4 → Rose faults_before faults_now
-  pub none : status ≡ 6 → IsNoRun entries left
-  pub memory : status ≡ 6 → Keeps before now ⊎ IsBroken command before now s
-  pub later : faults_before ≤ faults_now
+-- status 5: the script was read, calls of the store failed, and the line of it was written, or a front of it and a write failed
+pub record IsStopped (input out : Stream) (given : Given) : Type 0 where
+  pub script : Script
+  pub read : WasRead input.before input.now script
+  pub cause : Rose given.store_before given.store_now
+  pub text : Writes out stopped_text
 
-abbrev pub EndsRun : Command → Stream → Given → Script → Type 0
-EndsRun command out given s = RunEnds command out.before out.now out.faults_before out.faults_now s given.status given.entries given.left
-
--- the status where there is no script: 2 for a faulty line, and 6 where memory ran out
-abbrev pub status_of_fault : ReadFault → ℕ
-status_of_fault (R.Script fault) = 2
-status_of_fault (R.Memory e) = 6
-
--- what is written then: the line of the fault, or nothing
-abbrev pub TellsFault : Stream → ReadFault → Type 0
-TellsFault out (R.Script fault) = Wrote out.before out.now out.faults_before out.faults_now (fault_line fault.line fault.cause)
-TellsFault out (R.Memory e) = Keeps out.before out.now
-
--- there is no script, and no run
-pub record EndsOnFault (out : Stream) (given : Given) (fault : ReadFault) : Type 0 where
-  pub status-is : given.status ≡ status_of_fault fault
-  pub told : TellsFault out fault
-  pub none : IsNoRun given.entries given.left
+-- how a run of a script ends: printed, cut, stopped for the store, or out of memory
+pub record RunEnds (command : Command) (out : Stream) (given : Given) (s : Script) : Type 0 where
+  pub which : (given.status ≡ 0) ⊎ (given.status ≡ 4) ⊎ (given.status ≡ 5) ⊎ (given.status ≡ 6)
+  pub run : (given.status ≡ 0) ⊎ (given.status ≡ 4) → IsSomeAnd given.left (IsRunBy command s given.entries)
+  pub done : given.status ≡ 0 → Appends out.before out.now (output s (order_of given.entries))
+  pub cut : given.status ≡ 4 → AppendsFront out.before out.now (output s (order_of given.entries))
+  pub cause : given.status ≡ 4 → Rose out.faults_before out.faults_now
+  pub store : given.status ≡ 5 → Rose given.store_before given.store_now
+  pub stopped : given.status ≡ 5 → Writes out stopped_text
+  pub none : (given.status ≡ 5) ⊎ (given.status ≡ 6) → IsNoRun given.entries given.left
+  pub memory : given.status ≡ 6 → Keeps out.before out.now ⊎ IsBroken command out.before out.now s
   pub later : out.faults_before ≤ out.faults_now
 
 -- exactly status 2: bytes that spell no script end so, unless a read failed or memory was wanting
 pub record RefusesNonScripts (input : Option (List ℕ)) (reads_before reads_now status : ℕ) : Type 0 where
   pub refuses : HoldsNone input → (Rose reads_before reads_now → ⊥) → (status ≡ 2) ⊎ (status ≡ 6)
 
--- completeness: bytes that spell a script end with 0 and a complete order, unless a read or a write failed or memory was wanting
-pub record RunsScripts (input : Option (List ℕ)) (reads_before reads_now writes_before writes_now status : ℕ) (entries : List Entry) : Type 0 where
-  pub runs : (s : Script) → Holds s input → (Rose reads_before reads_now → ⊥) → (Rose writes_before writes_now → ⊥)
-      → ((status ≡ 0) × IsComplete s (order_of entries)) ⊎ (status ≡ 6)
+-- a script ended with 0 and a complete order, or with 5 and the store failed, or with 6
+abbrev pub RanToEnd : Given → Script → Type 0
+RanToEnd given s =
+    ((given.status ≡ 0) × IsComplete s (order_of given.entries)) ⊎ ((given.status ≡ 5) × Rose given.store_before given.store_now) ⊎ (given.status ≡ 6)
+
+-- completeness: bytes that spell a script end so, unless a read or a write failed
+pub record RunsScripts (input out : Stream) (given : Given) : Type 0 where
+  pub runs : (s : Script) → Holds s input.before → (Rose input.faults_before input.faults_now → ⊥) → (Rose out.faults_before out.faults_now → ⊥) → RanToEnd given s
 
 -- ---- the store
 
--- the store is handed back only under 6, of a script that was read, and always there where something was written
-pub record HandsStoreBack {B : Type 0} (input_before input_now before now : Option (List ℕ)) (status : ℕ) (store : Option B) : Type 0 where
-  pub only : IfSome store (λ b. (status ≡ 6) × (s : Script) × WasRead input_before input_now s)
-  pub always : status ≡ 6 → store ≡ None → Keeps before now
+-- the store is handed back only under 5 and 6, always under 5, and under 6 always where something was written
+pub record HandsStoreBack {B : Type 0} (before now : Option (List ℕ)) (status : ℕ) (store : Option B) : Type 0 where
+  pub only : IfSome store (λ b. (status ≡ 5) ⊎ (status ≡ 6))
+  pub stopped : status ≡ 5 → store ≡ None → ⊥
+  pub written : status ≡ 6 → store ≡ None → Keeps before now
 
 -- the count of faults at the end: of the store within the levels, else of the one that is handed back, else as it was at the start
 abbrev pub count_at_end : Option ℕ → Option ℕ → ℕ → ℕ
@@ -176,20 +187,25 @@ count_at_end None (Some back) start = back
 count_at_end None None start = start
 
 -- where the store is at the end, and how many of its calls had failed
-pub record StoreEnds {B : Type 0} (faults : B → ℕ) (store : B) (input out : Stream) (outcome : Outcome B) : Type 0 where
-  pub back : HandsStoreBack input.before input.now out.before out.now outcome.status outcome.store
-  pub count : outcome.store_faults ≡ count_at_end (option_map (λ (l : Levels B). faults l.pages.store) outcome.levels) (option_map faults outcome.store) (faults store)
-  pub later : faults store ≤ outcome.store_faults
+pub record StoreIsLeft {B : Type 0} (faults : B → ℕ) (start : ℕ) (out : Stream) (outcome : Outcome B) : Type 0 where
+  pub back : HandsStoreBack out.before out.now outcome.status outcome.store
+  pub count : outcome.store_faults ≡ count_at_end (option_map (λ (l : Levels B). faults l.pages.store) outcome.levels) (option_map faults outcome.store) start
+  pub later : start ≤ outcome.store_faults
+
+-- the same of a command: it is handed back only of a script that was read
+pub record StoreEnds {B : Type 0} (faults : B → ℕ) (start : ℕ) (input out : Stream) (outcome : Outcome B) : Type 0 where
+  pub left : StoreIsLeft faults start out outcome
+  pub read : IfSome outcome.store (λ b. (s : Script) × WasRead input.before input.now s)
 
 -- ---- the statuses
 
 -- of a command
 abbrev pub IsRunStatus : ℕ → Type 0
-IsRunStatus status = (status ≡ 0) ⊎ (status ≡ 2) ⊎ (status ≡ 3) ⊎ (status ≡ 4) ⊎ (status ≡ 6)
+IsRunStatus status = (status ≡ 0) ⊎ (status ≡ 2) ⊎ (status ≡ 3) ⊎ (status ≡ 4) ⊎ (status ≡ 5) ⊎ (status ≡ 6)
 
 -- the statuses without a run
 abbrev pub HasNoRun : ℕ → Type 0
-HasNoRun status = (status ≡ 1) ⊎ (status ≡ 2) ⊎ (status ≡ 3) ⊎ (status ≡ 6)
+HasNoRun status = (status ≡ 1) ⊎ (status ≡ 2) ⊎ (status ≡ 3) ⊎ (status ≡ 5) ⊎ (status ≡ 6)
 
 -- ---- a command, from the bytes that go in to those that come out
 
@@ -200,19 +216,21 @@ pub record Ends (command : Command) (input out : Stream) (given : Given) : Type 
   -- at 0, what was written is the output of the flat objects for the order that the entries record
   pub printed : given.status ≡ 0 → (s : Script) × IsPrinted command input.before input.now out.before out.now given.entries given.left s
   -- at 2, the bytes are no script, and their first fault was written
-  pub refused : given.status ≡ 2 → IsRefused input.before out.before out.now out.faults_before out.faults_now
+  pub refused : given.status ≡ 2 → IsRefused input out
   -- at 3, the input failed
   pub read_fault : given.status ≡ 3 → Rose input.faults_before input.faults_now
-  pub read_fault_line : given.status ≡ 3 → Wrote out.before out.now out.faults_before out.faults_now read_fault_text
+  pub read_fault_line : given.status ≡ 3 → Writes out read_fault_text
   -- at 4, the output failed
   pub write_fault : given.status ≡ 4 → Rose out.faults_before out.faults_now
   pub cut : given.status ≡ 4 → (s : Script) × IsCut command input.before input.now out.before out.now given.entries given.left s
+  -- at 5, the store failed, and the line of it was written
+  pub stopped : given.status ≡ 5 → IsStopped input out given
   -- at 6, a front of the transcript was written, or nothing
   pub memory : given.status ≡ 6 → IsUnfinished command input.before input.now out.before out.now
   -- unless memory was wanting or a count rose, bytes that are no script end it with 2, and a script with 0
   pub no_script : RefusesNonScripts input.before input.faults_before input.faults_now given.status
-  pub complete : RunsScripts input.before input.faults_before input.faults_now out.faults_before out.faults_now given.status given.entries
-  -- at 2, 3 and 6 no run was made
+  pub complete : RunsScripts input out given
+  -- at 2, 3, 5 and 6 no run is given
   pub none : HasNoRun given.status → IsNoRun given.entries given.left
   pub input_later : input.faults_before ≤ input.faults_now
   pub out_later : out.faults_before ≤ out.faults_now

@@ -34,6 +34,7 @@ pub record EndsUnheard (input out : Stream) (status : ℕ) : Type 0 where
   pub text : out.now ≡ out.before
   pub out_faults : out.faults_now ≡ out.faults_before
 
--- a program of these words ended with this status: as its words ask, or for want of memory before they were had
-abbrev pub ProgramEnds : List (List ℕ) → Stream → Stream → ℕ → Type 0
-ProgramEnds words input out status = EndsUnheard input out status ⊎ ((given : Given) × EndsAsAsked words input out given × (status ≡ given.status))
+-- a program of these words ended with this status, where so many calls of the store had failed before: as its words ask, or for want of memory before they were had
+abbrev pub ProgramEnds : List (List ℕ) → Stream → Stream → ℕ → ℕ → Type 0
+ProgramEnds words input out start status =
+    EndsUnheard input out status ⊎ ((given : Given) × EndsAsAsked words input out given × (status ≡ given.status) × (start ≡ given.store_before))

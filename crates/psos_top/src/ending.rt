@@ -1,19 +1,22 @@
 // The ends of a command.
-ghost use Rattle.std.specs.Prelude.{◌≡◌, ◌≤◌, ◌<◌, ◌^◌, None, Some, IfOk, IfErr, IfSome, OnOk};
+ghost use Rattle.std.specs.Prelude.{◌≡◌, ◌≤◌, ◌<◌, ◌^◌, None, Some, IfOk, IfErr, IfSome, IsSome, OnOk, ℕ};
 ghost use Rattle.std.specs.Io.KnownBytes.{Appends};
 ghost use Rattle.psos_model.specs.Text.Output.{calls_of, printed};
 ghost use Rattle.psos_print.specs.Pieces.{HasReason};
 ghost use Rattle.psos_core.specs.System.{system_of};
 ghost use Rattle.psos_top.specs.Orders.{IsRunBy};
 ghost use Rattle.psos_top.specs.declared.command.Command.{Command};
-ghost use Rattle.psos_top.specs.Outcome.{fault_line, stream, given_by, Wrote, IsNoRun, LeavesFront, EndsRun};
+ghost use Rattle.psos_top.specs.Outcome.{fault_line, stream, Stream, given_by, Writes, IsNoRun, LeavesFront, RunEnds, Ends, StoreIsLeft, StoreEnds};
+ghost use Rattle.psos_top.specs.Runs.{HasRead, IsLeftBy, status_of_stop, TellsStop};
 
+use crate::Command;
 use crate::fault_line::fault_line;
+use crate::open_fault::OpenFault;
 use crate::outcome::Outcome;
 use psos_calls::{Entry, Script};
-use psos_core::Levels;
+use psos_core::{Levels, Parts};
 use psos_io::{Sink, Store, put_all};
-use psos_journal::Entries;
+use psos_journal::{Entries, StopCause};
 use psos_print::{PrintFault, done_line, put_transcript};
 use psos_script::ScriptFault;
 use std::alloc::{AllocError, Global};
@@ -35,9 +38,9 @@ pub fn no_run<B: Store>(alloc: Global, status: u8, store_faults: u64) -> Outcome
     }
 }
 
-/// Want of memory in a run that was opened. The store is handed back.
-pub fn give_up<B: Store>(alloc: Global, store: B) -> Outcome<B>
-    ensures status { result.status ≡ 6 }
+/// The same of a run that was opened. The store is handed back.
+pub fn give_back<B: Store>(alloc: Global, status: u8, store: B) -> Outcome<B>
+    ensures status { result.status ≡ status }
     ensures none { IsNoRun result.entries result.levels }
     ensures levels { result.levels ≡ None }
     ensures store { result.store ≡ Some store }
@@ -45,7 +48,7 @@ pub fn give_up<B: Store>(alloc: Global, store: B) -> Outcome<B>
 {
     let store_faults = store.faults();
     Outcome {
-        status: 6,
+        status,
         entries: Entries::empty(alloc),
         levels: None,
         store: Some(store),
@@ -59,36 +62,61 @@ pub fn stop<K: Sink, B: Store>(
     output: &mut K,
     status: u8,
     text: &[u8],
-    store: B,
+    store_faults: u64,
 ) -> Outcome<B>
     ensures status { result.status ≡ status }
     ensures none { IsNoRun result.entries result.levels }
-    ensures wrote { Wrote (K.took output.old) (K.took output.new) (K.faults output.old) (K.faults output.new) text.now }
+    ensures wrote { Writes (stream K.took K.faults output.old output.new) text.now }
     ensures later { K.faults output.old ≤ K.faults output.new }
     ensures levels { result.levels ≡ None }
     ensures store { result.store ≡ None }
-    ensures store_faults { result.store_faults ≡ B.faults store }
+    ensures store_faults { result.store_faults ≡ store_faults }
 {
     let _ = put_all(output, text);
-    no_run(alloc, status, store.faults())
+    no_run(alloc, status, store_faults)
 }
 
-/// The line of the first fault of a script, in place of a run.
-pub fn refuse<K: Sink, B: Store>(
+// The line of the first fault of a script, in place of a run.
+fn refuse<K: Sink, B: Store>(
     alloc: Global,
     output: &mut K,
     fault: ScriptFault,
-    store: B,
+    store_faults: u64,
 ) -> Outcome<B>
     ensures status { result.status ≡ 2 }
     ensures none { IsNoRun result.entries result.levels }
-    ensures wrote { Wrote (K.took output.old) (K.took output.new) (K.faults output.old) (K.faults output.new) (fault_line fault.line fault.cause) }
+    ensures wrote { Writes (stream K.took K.faults output.old output.new) (fault_line fault.line fault.cause) }
     ensures later { K.faults output.old ≤ K.faults output.new }
     ensures levels { result.levels ≡ None }
     ensures store { result.store ≡ None }
+    ensures store_faults { result.store_faults ≡ store_faults }
+{
+    stop(alloc, output, 2, &fault_line(fault), store_faults)
+}
+
+// A run that was stopped: where the store failed the line of it, and else nothing. The store is handed back.
+fn stopped<K: Sink, B: Store>(
+    alloc: Global,
+    cause: Option<StopCause>,
+    store: B,
+    output: &mut K,
+) -> Outcome<B>
+    ensures status { result.status ≡ status_of_stop cause }
+    ensures none { IsNoRun result.entries result.levels }
+    ensures told { TellsStop (stream K.took K.faults output.old output.new) cause }
+    ensures later { K.faults output.old ≤ K.faults output.new }
+    ensures levels { result.levels ≡ None }
+    ensures store { result.store ≡ Some store }
     ensures store_faults { result.store_faults ≡ B.faults store }
 {
-    stop(alloc, output, 2, &fault_line(fault), store)
+    match cause {
+        Some(StopCause::Store) => {
+            let _ = put_all(output, b"stopped store\n");
+            give_back(alloc, 5, store)
+        }
+        Some(StopCause::Memory) => give_back(alloc, 6, store),
+        None => give_back(alloc, 6, store),
+    }
 }
 
 // Writes the transcript, and then the last line.
@@ -114,9 +142,9 @@ fn put_run<K: Sink>(
     Ok(())
 }
 
-/// Prints a whole run. For want of memory there is then no run, though a front of its transcript may be written, and the
-/// store is handed back.
-pub fn finish<K: Sink, B: Store>(
+// Prints a whole run. For want of memory there is then no run, though a front of its transcript may be written, and the
+// store is handed back.
+fn finish<K: Sink, B: Store>(
     alloc: Global,
     script: &Script,
     entries: Entries<Entry>,
@@ -124,17 +152,15 @@ pub fn finish<K: Sink, B: Store>(
     output: &mut K,
 ) -> Outcome<B>
     requires few { calls_of entries < 2 ^ 64 }
-    ensures ends { (command : Command) → IsRunBy command script.now entries (system_of levels) →
-        EndsRun command (stream K.took K.faults output.old output.new) (given_by result) script.now }
-    ensures levels { IfSome result.levels (λ l. l ≡ levels) }
-    ensures store { IfSome result.store (λ b. (result.status ≡ 6) × (b ≡ levels.pages.store)) }
-    ensures either { result.levels ≡ None → result.store ≡ Some levels.pages.store }
-    ensures store_faults { result.store_faults ≡ B.faults levels.pages.store }
+    ensures ends { (command : Command) (start : ℕ) → IsRunBy command script.now entries (system_of levels) →
+        RunEnds command (stream K.took K.faults output.old output.new) (given_by start result) script.now }
+    ensures store { (start : ℕ) → start ≤ B.faults levels.pages.store →
+        StoreIsLeft B.faults start (stream K.took K.faults output.old output.new) result }
 {
     let status = match put_run(alloc, script, &entries, output) {
         Ok(()) => 0,
         Err(PrintFault::Write) => 4,
-        Err(PrintFault::Memory(_)) => return give_up(alloc, levels.pages.into_store()),
+        Err(PrintFault::Memory(_)) => return give_back(alloc, 6, levels.pages.into_store()),
     };
     let store_faults = levels.pages.store_faults();
     Outcome {
@@ -143,5 +169,59 @@ pub fn finish<K: Sink, B: Store>(
         levels: Some(levels),
         store: None,
         store_faults,
+    }
+}
+
+// Prints what a run left. The command whose run it is, and the store's count of faults before it, are named for clauses
+// alone.
+fn close<K: Sink, B: Store>(
+    alloc: Global,
+    command: Command,
+    script: &Script,
+    parts: Parts<B>,
+    start: u64,
+    output: &mut K,
+) -> Outcome<B>
+    requires left { IsLeftBy B.faults start command script.now parts }
+    ensures ends { RunEnds command (stream K.took K.faults output.old output.new) (given_by start result) script.now }
+    ensures store { StoreIsLeft B.faults start (stream K.took K.faults output.old output.new) result }
+{
+    let (_command, _start) = (command, start);
+    let Parts {
+        entries,
+        levels,
+        store,
+        store_faults: _,
+        stopped: cause,
+    } = parts;
+    match levels {
+        Some(levels) => finish(alloc, script, entries, levels, output),
+        None => match store {
+            Some(store) => stopped(alloc, cause, store, output),
+            None => unreachable!(),
+        },
+    }
+}
+
+/// The end of a command that read its script and ran it, or that has none: what is printed of it, and what is given.
+/// Before the command the store's count of faults was `start`.
+pub(crate) fn end<K: Sink, B: Store>(
+    alloc: Global,
+    command: Command,
+    ran: Result<(Script, Parts<B>), OpenFault>,
+    start: u64,
+    output: &mut K,
+) -> Outcome<B>
+    requires left { IfOk ran (λ r. IsLeftBy B.faults start command r.0 r.1) }
+    ensures ends { (input : Stream) → HasRead (λ r. r.0) input ran →
+        Ends command input (stream K.took K.faults output.old output.new) (given_by start result) }
+    ensures store { (input : Stream) → HasRead (λ r. r.0) input ran →
+        StoreEnds B.faults start input (stream K.took K.faults output.old output.new) result }
+{
+    match ran {
+        Ok((script, parts)) => close(alloc, command, &script, parts, start, output),
+        Err(OpenFault::Input) => stop(alloc, output, 3, b"read fault\n", start),
+        Err(OpenFault::Script(fault)) => refuse(alloc, output, fault, start),
+        Err(OpenFault::Memory) => no_run(alloc, 6, start),
     }
 }

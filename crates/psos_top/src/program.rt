@@ -6,10 +6,12 @@ ghost use Rattle.psos_top.specs.Words.{words_in, words_asked};
 ghost use Rattle.psos_top.specs.Outcome.{stream, given_by, usage_text, Wrote, StoreEnds};
 ghost use Rattle.psos_top.specs.Program.{PrintsAsAsked, EndsAsAsked, ProgramEnds};
 
+use crate::Command;
 use crate::arguments::words_of;
 use crate::ending::stop;
 use crate::outcome::Outcome;
-use crate::run::run;
+use crate::serial::serial_call;
+use crate::turns::turns_call;
 use crate::words::read_words;
 use psos_io::{Gate, Sink, Source, Store};
 use std::alloc::Global;
@@ -40,14 +42,14 @@ pub fn psos_main<R: Threads + Wait + Sync, I: Source, K: Sink, B: Store + Send, 
     // At 0, what was written is the output of the flat objects for the order that the entries record, which is the order
     // of the command.
     ensures printed { result.status ≡ 0 → PrintsAsAsked (map string_bytes words.now)
-        (stream I.left I.faults input.old input.new) (stream K.took K.faults output.old output.new) (given_by result) }
+        (stream I.left I.faults input.old input.new) (stream K.took K.faults output.old output.new) (given_by (B.faults store) result) }
 
     // All statuses: without the shape the line of 1, and else how the command that is asked for ends.
     ensures ends { EndsAsAsked (map string_bytes words.now)
-        (stream I.left I.faults input.old input.new) (stream K.took K.faults output.old output.new) (given_by result) }
+        (stream I.left I.faults input.old input.new) (stream K.took K.faults output.old output.new) (given_by (B.faults store) result) }
 
     // The store is in the levels, or handed back, or as it was until it was gone.
-    ensures store { StoreEnds B.faults store
+    ensures store { StoreEnds B.faults (B.faults store)
         (stream I.left I.faults input.old input.new) (stream K.took K.faults output.old output.new) result }
 {
     let Some(asked) = read_words(words) else {
@@ -56,10 +58,13 @@ pub fn psos_main<R: Threads + Wait + Sync, I: Source, K: Sink, B: Store + Send, 
             output,
             1,
             b"usage: psos COMMAND [OPTION N]...\n",
-            store,
+            store.faults(),
         );
     };
-    run(alloc, asked.command, asked.frames, input, output, store)
+    match asked.command {
+        Command::Serial => serial_call(alloc, asked.frames, input, output, store),
+        Command::Turns(seed) => turns_call(alloc, asked.frames, seed, input, output, store),
+    }
 }
 
 /// The program from its arguments to its exit code, which is the status. The first argument is the program's own name,
@@ -77,7 +82,7 @@ pub fn psos_program<R: Threads + Wait + Sync, I: Source, K: Sink, B: Store + Sen
     gate: &G,
 ) -> ExitCode
     ensures ends { ProgramEnds (words_in args)
-        (stream I.left I.faults input.old input.new) (stream K.took K.faults output.old output.new) (exit_status result) }
+        (stream I.left I.faults input.old input.new) (stream K.took K.faults output.old output.new) (B.faults store) (exit_status result) }
     ensures memory { IfErr args (λ e. error_kind e ≡ ErrorKind.OutOfMemory → exit_status result ≡ 6) }
     ensures untold { IfErr args (λ e. error_kind e ≢ ErrorKind.OutOfMemory → exit_status result ≡ 1) }
 {

@@ -1,13 +1,35 @@
 // The command `serial`.
-ghost use Rattle.std.specs.Prelude.{◌≤◌};
+ghost use Rattle.std.specs.Prelude.{◌≤◌, IfOk};
 ghost use Rattle.psos_limits.specs.declared.TheConstants.{MOST_PAGE_FRAMES, LEAST_PAGE_FRAMES};
 ghost use Rattle.psos_top.specs.Outcome.{stream, given_by, Ends, StoreEnds};
+ghost use Rattle.psos_top.specs.Runs.{HasRead, IsLeftBy};
 
 use crate::Command;
+use crate::ending::end;
+use crate::open_fault::OpenFault;
+use crate::opening::open_core;
 use crate::outcome::Outcome;
-use crate::run::run;
+use psos_calls::Script;
+use psos_core::Parts;
 use psos_io::{Sink, Source, Store};
 use std::alloc::Global;
+
+// Reads the script and runs it.
+fn serve<I: Source, B: Store>(
+    alloc: Global,
+    frames: u16,
+    input: &mut I,
+    store: B,
+) -> Result<(Script, Parts<B>), OpenFault>
+    requires least { LEAST_PAGE_FRAMES ≤ frames }
+    requires most { frames ≤ MOST_PAGE_FRAMES }
+    ensures read { HasRead (λ r. r.0) (stream I.left I.faults input.old input.new) result }
+    ensures left { IfOk result (λ r. IsLeftBy B.faults (B.faults store) Command.Serial r.0 r.1) }
+{
+    let mut core = open_core(alloc, frames, input, store)?;
+    let _ = core.serial(alloc);
+    Ok(core.into_parts())
+}
 
 /// The command `serial`: reads a script, runs it phase by phase and in each phase user by user, and prints the
 /// transcript (docs/program.md, "Commands").
@@ -23,8 +45,10 @@ pub fn serial_call<I: Source, K: Sink, B: Store>(
 ) -> Outcome<B>
     requires least { LEAST_PAGE_FRAMES ≤ frames }
     requires most { frames ≤ MOST_PAGE_FRAMES }
-    ensures ends { Ends Command.Serial (stream I.left I.faults input.old input.new) (stream K.took K.faults output.old output.new) (given_by result) }
-    ensures store { StoreEnds B.faults store (stream I.left I.faults input.old input.new) (stream K.took K.faults output.old output.new) result }
+    ensures ends { Ends Command.Serial (stream I.left I.faults input.old input.new) (stream K.took K.faults output.old output.new) (given_by (B.faults store) result) }
+    ensures store { StoreEnds B.faults (B.faults store) (stream I.left I.faults input.old input.new) (stream K.took K.faults output.old output.new) result }
 {
-    run(alloc, Command::Serial, frames, input, output, store)
+    let start = store.faults();
+    let ran = serve(alloc, frames, input, store);
+    end(alloc, Command::Serial, ran, start, output)
 }
