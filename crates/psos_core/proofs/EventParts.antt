@@ -60,10 +60,10 @@ pub same_is : {B : Type 0} (l m : Levels B) (o p : Ongoing) (entries : List Entr
 same_is {B} l m o p entries u lent trace levels privates held traces back read =
     let S : machines.Levels → List User → List (List LockId) → List (List Step) → CoreState = λ ls us hs ts. record { levels = ls; users = us; held = hs; traces = ts; entries = entries } in
     let same : p.traces.items ≡ o.traces.items = traces ∙ (ap (set o.traces.items u) (back ∙ read) ∙ set-get_or o.traces.items u lent) in
-    ap (λ (ls : machines.Levels). S ls m.privates.items p.held p.traces.items) levels
-    ∙ (ap (λ (us : List User). S (levels_of l) us p.held p.traces.items) (ap (λ ps. ps.items) privates)
-    ∙ (ap (λ (hs : List (List LockId)). S (levels_of l) l.privates.items hs p.traces.items) held
-    ∙ ap (λ (ts : List (List Step)). S (levels_of l) l.privates.items o.held ts) same))
+    ap (λ (ls : machines.Levels). S ls m.privates.value.items p.held p.traces.items) levels
+    ∙ (ap (λ (us : List User). S (levels_of l) us p.held p.traces.items) (ap (λ ps. ps.value.items) privates)
+    ∙ (ap (λ (hs : List (List LockId)). S (levels_of l) l.privates.value.items hs p.traces.items) held
+    ∙ ap (λ (ts : List (List Step)). S (levels_of l) l.privates.value.items o.held ts) same))
 
 -- the state after a call, from its parts
 pub called_is : {B : Type 0} (l m : Levels B) (o p : Ongoing) (entries : List Entry) (u : ℕ) (call : LevelCall) (trace : List Step)
@@ -73,10 +73,10 @@ called_is {B} l m o p entries u call trace levels privates held traces longer =
     let c = state_in l o entries in
     let S : machines.Levels → List User → List (List LockId) → List (List Step) → CoreState = λ ls us hs ts. record { levels = ls; users = us; held = hs; traces = ts; entries = entries } in
     let L = (act (levels_of l) call).0 in
-    ap (λ (ls : machines.Levels). S ls m.privates.items p.held p.traces.items) levels
-    ∙ (ap (λ (us : List User). S L us p.held p.traces.items) (ap (λ ps. ps.items) privates)
-    ∙ (ap (λ (hs : List (List LockId)). S L l.privates.items hs p.traces.items) held
-    ∙ ap (λ (ts : List (List Step)). S L l.privates.items o.held ts) (traces ∙ ap (set o.traces.items u) longer)))
+    ap (λ (ls : machines.Levels). S ls m.privates.value.items p.held p.traces.items) levels
+    ∙ (ap (λ (us : List User). S L us p.held p.traces.items) (ap (λ ps. ps.value.items) privates)
+    ∙ (ap (λ (hs : List (List LockId)). S L l.privates.value.items hs p.traces.items) held
+    ∙ ap (λ (ts : List (List Step)). S L l.privates.value.items o.held ts) (traces ∙ ap (set o.traces.items u) longer)))
 
 -- the users' parts are written back, with one that was set
 pub parts_are : (users slots : List User) (u : ℕ) (left x : User) → slots ≡ users → left ≡ x → refill (length users) users (set slots u left) ≡ set users u x
@@ -86,15 +86,15 @@ parts_are users slots u left x same is =
 
 -- the state after a close, from its parts
 pub closed_is : {B : Type 0} (s : Script) (l m : Levels B) (o p : Ongoing) (entries more : List Entry) (u : ℕ) (x : User) (reply : Reply) (effect : Effect) (trace : List Step)
-    (steps : List (Level × LevelCall)) (n k : ℕ) → levels_of m ≡ levels_of l → m.privates.items ≡ set l.privates.items u (after s x effect) → p.held ≡ set o.held u []
+    (steps : List (Level × LevelCall)) (n k : ℕ) → levels_of m ≡ levels_of l → m.privates.value.items ≡ set l.privates.value.items u (after s x effect) → p.held ≡ set o.held u []
     → p.traces.items ≡ set o.traces.items u trace → trace ≡ [] → steps ≡ calls_in (slice_index_or o.traces.items u []) → (n, k) ≡ place_of x
     → more ≡ entries ++ record { user = u; n = n; m = k; steps = steps; reply = reply } ∷ [] → state_in m p more ≡ closed s (state_in l o entries) u reply effect x
 closed_is {B} s l m o p entries more u x reply effect trace steps n k levels users held traces none calls place entry =
     let S : machines.Levels → List User → List (List LockId) → List (List Step) → List Entry → CoreState = λ ls us hs ts es. record { levels = ls; users = us; held = hs; traces = ts; entries = es } in
-    let U = set l.privates.items u (after s x effect) in
+    let U = set l.privates.value.items u (after s x effect) in
     let G : ℕ × ℕ → List (Level × LevelCall) → List Entry = λ at cs. entries ++ record { user = u; n = at.0; m = at.1; steps = cs; reply = reply } ∷ [] in
     let all : more ≡ G (place_of x) (calls_in (slice_index_or o.traces.items u [])) = entry ∙ (ap (λ (at : ℕ × ℕ). G at steps) place ∙ ap (G (place_of x)) calls) in
-    ap (λ (ls : machines.Levels). S ls m.privates.items p.held p.traces.items more) levels
+    ap (λ (ls : machines.Levels). S ls m.privates.value.items p.held p.traces.items more) levels
     ∙ (ap (λ (us : List User). S (levels_of l) us p.held p.traces.items more) users
     ∙ (ap (λ (hs : List (List LockId)). S (levels_of l) U hs p.traces.items more) held
     ∙ (ap (λ (ts : List (List Step)). S (levels_of l) U (set o.held u []) ts more) (traces ∙ ap (set o.traces.items u) none)

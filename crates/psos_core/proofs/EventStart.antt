@@ -27,10 +27,10 @@ use Rattle.psos_core.specs.EventStates.{HasLed}
 
 -- nothing is held, no trace is open, and nothing has closed
 pub first_led : {B : Type 0} (s own : Script) (l : Levels B) (o : Ongoing) (entries : List Entry) (f : Flat) → IsCoreStart s (system_of l) f → own ≡ s → entries ≡ []
-    → o.held ≡ replicate (length l.privates.items) [] → o.traces.items ≡ replicate (length l.privates.items) [] → HasLed own (state_in l o entries) (record { system = system_of l; flat = f }) []
+    → o.held ≡ replicate (length l.privates.value.items) [] → o.traces.items ≡ replicate (length l.privates.value.items) [] → HasLed own (state_in l o entries) (record { system = system_of l; flat = f }) []
 first_led {B} s own l o entries f start same nothing held traces =
     let P : Script → List Entry → Type 0 = λ z es. HasLed z (state_in l o es) (record { system = system_of l; flat = f }) [] in
-    let users = l.privates.items in
+    let users = l.privates.value.items in
     let S : List (List LockId) → List (List Step) → CoreState = λ locks steps. record { levels = levels_of l; users = users; held = locks; traces = steps; entries = [] } in
     let led : P s [] = record {
       starts = start;
@@ -40,11 +40,11 @@ first_led {B} s own l o entries f start same nothing held traces =
     subst (λ (z : Script). P z entries) (sym same) (subst (P s) (sym nothing) led)
 
 -- where no request is open, what is kept goes with the state
-pub first_planned : {B : Type 0} (s : Script) (l : Levels B) (o : Ongoing) (entries : List Entry) → length l.privates.items ≡ length s.users
-    → o.held ≡ replicate (length l.privates.items) [] → o.traces.items ≡ replicate (length l.privates.items) [] → AreFirst s l.privates.items o.nexts.items
-    → o.phases ≡ map (phase_of s) l.privates.items → IsPlanned s (state_in l o entries) o.nexts.items o.phases
+pub first_planned : {B : Type 0} (s : Script) (l : Levels B) (o : Ongoing) (entries : List Entry) → length l.privates.value.items ≡ length s.users
+    → o.held ≡ replicate (length l.privates.value.items) [] → o.traces.items ≡ replicate (length l.privates.value.items) [] → AreFirst s l.privates.value.items o.nexts.items
+    → o.phases ≡ map (phase_of s) l.privates.value.items → IsPlanned s (state_in l o entries) o.nexts.items o.phases
 first_planned {B} s l o entries all held traces first phases =
-    let users = l.privates.items in
+    let users = l.privates.value.items in
     let none : (u : ℕ) → slice_index_or o.traces.items u [] ≡ [] = λ u. ap (λ (ts : List (List Step)). slice_index_or ts u []) traces ∙ nothing_at (length users) u in
     record {
       users = all;

@@ -28,7 +28,7 @@ use Rattle.psos_core.specs.System.{levels_of}
 
 -- the state of a core, of its parts
 abbrev pub state_in : {B : Type 0} → Levels B → Ongoing → List Entry → CoreState
-state_in l o entries = record { levels = levels_of l; users = l.privates.items; held = o.held; traces = o.traces.items; entries = entries }
+state_in l o entries = record { levels = levels_of l; users = l.privates.value.items; held = o.held; traces = o.traces.items; entries = entries }
 
 -- ---- what plans do next
 

@@ -9,4 +9,4 @@ levels_of l = record { next = l.issuer; pages = l.pages.slots; segs = l.segs; ty
 
 -- and the users' own parts
 abbrev pub system_of : {B : Type 0} → Levels B → System
-system_of l = record { levels = levels_of l; users = l.privates.items }
+system_of l = record { levels = levels_of l; users = l.privates.value.items }

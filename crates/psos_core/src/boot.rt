@@ -55,7 +55,7 @@ impl<B: Store> Levels<B> {
         ensures store { IfOk result (λ l. l.pages.store ≡ store) }
     {
         let texts = script.users();
-        let mut privates = ArrayVec::new();
+        let mut privates = Box::new(alloc, ArrayVec::new())?;
         push_users(&mut privates, 0, texts);
         Ok(Levels {
             issuer: Issuer::new(Uid(3 + 4 * texts.len() as u64)),

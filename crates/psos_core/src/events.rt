@@ -29,7 +29,7 @@ impl<B: Store> Core<B> {
     // Whether a user has a request left.
     fn is_left(&self, user: u8) -> bool
         requires { user < length self.now.script.users }
-        ensures { result ≡ has_left self.now.script self.now.levels.privates.items user }
+        ensures { result ≡ has_left self.now.script self.now.levels.privates.value.items user }
     {
         let me = &self.levels.privates.as_slice()[user as usize];
         is_open(me) || self.ongoing.phases.is_current(user as usize)
@@ -46,7 +46,7 @@ impl<B: Store> Core<B> {
     /// Whether no user has a request left, of every core. Where the core is not stopped and a user has one left, some
     /// user may go on: a run by events is never stuck. It takes no memory.
     pub fn finished(&self) -> bool
-        ensures over { IsTrue result ↔ ((u : ℕ) → has_left self.now.script self.now.levels.privates.items u ≡ false) }
+        ensures over { IsTrue result ↔ ((u : ℕ) → has_left self.now.script self.now.levels.privates.value.items u ≡ false) }
         ensures goes_on { self.now.stopped ≡ None → result ≡ false → (v : ℕ) × IsTrue (is_enabled self.now.script (core_state_of self.now) v) }
     {
         none_left(

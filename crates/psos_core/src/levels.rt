@@ -40,7 +40,8 @@ pub struct Levels<B: Store> {
     pub procs: Procs,
     /// Level 13.
     pub codes: Codes,
-    pub privates: ArrayVec<Private, 8>,
+    /// In the order of the script: on the heap, since levels are moved as a whole.
+    pub privates: Box<ArrayVec<Private, 8>>,
 }
 
 /// Makes a call of level 0 (docs/levels.md, "Calls"): the next identifier with all rights, and the next rises by one.

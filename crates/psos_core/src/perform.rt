@@ -90,7 +90,7 @@ pub(crate) fn perform<B: Store>(
     trace: &mut Trace,
 ) -> Result<Closing, StopCause>
     ghost me: { User }
-    requires user { slice_get levels.old.privates.items u ≡ Some me }
+    requires user { slice_get levels.old.privates.value.items u ≡ Some me }
     requires in_range { InRange MOST_CODES request.now }
     requires lists { HasLists (levels_of levels.old) }
     requires can { CanRun (plan_of me request.now) (levels_of levels.old) }

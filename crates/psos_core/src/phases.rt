@@ -2,8 +2,9 @@
 ghost use Rattle.std.specs.Prelude.{◌≡◌, ◌<◌, length, replicate, slice_index_or, slice_set, None, IfOk};
 ghost use Rattle.psos_model.specs.Run.{phase_of, earlier, is_now};
 ghost use Rattle.psos_core.specs.Least.{least};
+ghost use Rattle.psos_core.specs.UnderWay.{phases_most};
 
-use psos_calls::{Private, Script};
+use psos_calls::{Private, Script, UserText};
 use psos_model::current_phase;
 use std::alloc::{AllocError, Global};
 use std::marker::Model;
@@ -65,6 +66,17 @@ impl Phases {
             _ => false,
         }
     }
+}
+
+/// As many phases as the user with the most has.
+pub fn phases_of(users: &[UserText]) -> usize
+    ensures { result ≡ phases_most users.now }
+{
+    let mut most = 0;
+    'users: for user in users {
+        most = most.max(user.phases().len());
+    }
+    most
 }
 
 /// The phase of what a user asks next: the current phase, if there were no other users.

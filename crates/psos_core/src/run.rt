@@ -12,9 +12,9 @@ ghost use Rattle.psos_core.specs.EventStates.{GoesOn};
 ghost use Rattle.psos_core.specs.Serving.{IsFrontFrom, AreSettledFrom, IsRunFrom};
 ghost use Rattle.psos_core.specs.Parts.{levels_of_stop, store_of_stop};
 
-use crate::Levels;
 use crate::ongoing::Ongoing;
 use crate::serial::serve_phases;
+use crate::{Levels, Parts};
 use psos_calls::{Entry, Script, Trace};
 use psos_io::Store;
 use psos_journal::{Entries, StopCause};
@@ -44,28 +44,6 @@ pub struct Core<B: Store> {
     ghost goes_on: { stopped ≡ None → ∥ GoesOn script (state_in levels ongoing entries) ∥₁ },
     ghost later: { start_faults.value ≤ B.faults levels.pages.store },
     ghost rose: { stopped ≡ Some stops.Store → Rose start_faults.value (B.faults levels.pages.store) },
-}
-
-/// What a run leaves.
-#[derive(Drop)]
-pub struct Parts<B: Store> {
-    /// Of the requests that closed, in their order.
-    pub entries: Entries<Entry>,
-    /// The levels' states, where the run was not stopped.
-    pub levels: Option<Levels<B>>,
-    /// The backing store, where it was.
-    pub store: Option<B>,
-    /// How many calls of the store failed so far.
-    pub store_faults: u64,
-    /// Why the run was stopped, if it was.
-    pub stopped: Option<StopCause>,
-}
-
-// The backing store of levels.
-fn into_store<B: Store>(levels: Levels<B>) -> B
-    ensures { result ≡ levels.pages.store }
-{
-    levels.pages.into_store()
 }
 
 impl<B: Store> Core<B> {
@@ -108,7 +86,7 @@ impl<B: Store> Core<B> {
         ensures run { OnOk result (IsRunFrom self.old.script (system_of self.old.levels) flat (IsSerialFrom self.old.script flat)
             self.new.entries (system_of self.new.levels)) }
         ensures front { IsFrontFrom self.old.script (system_of self.old.levels) flat self.new.entries }
-        ensures settled { AreSettledFrom self.old.script (system_of self.old.levels) self.new.entries self.new.levels.privates.items }
+        ensures settled { AreSettledFrom self.old.script (system_of self.old.levels) self.new.entries self.new.levels.privates.value.items }
         ensures script { self.new.script ≡ self.old.script }
         ensures going { OnOk result (self.new.stopped ≡ None) }
         ensures stopped { IfErr result (λ cause. self.new.stopped ≡ Some cause) }
@@ -161,18 +139,6 @@ impl<B: Store> Core<B> {
             trace: _,
             ongoing: _,
         } = self;
-        let store_faults = levels.pages.store_faults();
-        let (levels, store) = match stopped {
-            None => (Some(levels), None),
-            Some(_cause) => (None, Some(into_store(levels))),
-        };
-        let parts = Parts {
-            entries,
-            levels,
-            store,
-            store_faults,
-            stopped,
-        };
-        (script, parts)
+        (script, Parts::new(entries, levels, stopped))
     }
 }

@@ -10,22 +10,12 @@ ghost use Rattle.psos_core.specs.Serving.{Start, IsFrontFrom, AreSettledFrom, Is
 ghost use Rattle.psos_core.specs.UnderWay.{phases_most, asked_before, due, AreCounted, HasServed};
 
 use crate::Levels;
+use crate::phases::phases_of;
 use crate::serve::serve;
-use psos_calls::{Entry, Private, Request, Script, Trace, UserText};
+use psos_calls::{Entry, Private, Request, Script, Trace};
 use psos_io::Store;
 use psos_journal::{Entries, StopCause};
 use std::alloc::Global;
-
-// As many phases as the user with the most has.
-fn phases_of(users: &[UserText]) -> usize
-    ensures { result ≡ phases_most users.now }
-{
-    let mut most = 0;
-    'users: for user in users {
-        most = most.max(user.phases().len());
-    }
-    most
-}
 
 // How many of user u's requests stand in phase p.
 fn asked_in(script: &Script, p: usize, u: usize) -> usize
@@ -108,8 +98,8 @@ fn serve_user<B: Store>(
     requires before { HasServed script.now start.system start.flat (system_of levels.old) entries.old p u }
     ensures served { OnOk result (HasServed script.now start.system start.flat (system_of levels.new) entries.new p (u + 1)) }
     ensures front { IsFrontFrom script.now start.system start.flat entries.new }
-    ensures settled { AreSettledFrom script.now start.system entries.new levels.new.privates.items }
-    ensures users { length levels.new.privates.items ≡ length levels.old.privates.items }
+    ensures settled { AreSettledFrom script.now start.system entries.new levels.new.privates.value.items }
+    ensures users { length levels.new.privates.value.items ≡ length levels.old.privates.value.items }
     ensures cause { MayStop (B.faults levels.old.pages.store) (B.faults levels.new.pages.store) result }
 {
     'turns: while let Some(request) = due(script, &levels.privates.as_slice()[u], p, u, count) {
@@ -137,8 +127,8 @@ fn serve_users<B: Store>(
     ensures counted { OnOk result (AreCounted script.now (p + 1) 0 counts.new) }
     ensures served { OnOk result (HasServed script.now start.system start.flat (system_of levels.new) entries.new (p + 1) 0) }
     ensures front { IsFrontFrom script.now start.system start.flat entries.new }
-    ensures settled { AreSettledFrom script.now start.system entries.new levels.new.privates.items }
-    ensures users { length levels.new.privates.items ≡ length levels.old.privates.items }
+    ensures settled { AreSettledFrom script.now start.system entries.new levels.new.privates.value.items }
+    ensures users { length levels.new.privates.value.items ≡ length levels.old.privates.value.items }
     ensures cause { MayStop (B.faults levels.old.pages.store) (B.faults levels.new.pages.store) result }
 {
     'users: for u in 0..script.users().len() {
@@ -166,8 +156,8 @@ pub(crate) fn serve_phases<B: Store>(
     requires fresh { entries.old ≡ [] }
     ensures run { OnOk result (IsRunFrom script.now start.system start.flat (IsSerialFrom script.now start.flat) entries.new (system_of levels.new)) }
     ensures front { IsFrontFrom script.now start.system start.flat entries.new }
-    ensures settled { AreSettledFrom script.now start.system entries.new levels.new.privates.items }
-    ensures users { length levels.new.privates.items ≡ length levels.old.privates.items }
+    ensures settled { AreSettledFrom script.now start.system entries.new levels.new.privates.value.items }
+    ensures users { length levels.new.privates.value.items ≡ length levels.old.privates.value.items }
     ensures cause { MayStop (B.faults levels.old.pages.store) (B.faults levels.new.pages.store) result }
 {
     let mut counts = [0; 8];

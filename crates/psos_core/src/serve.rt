@@ -28,7 +28,7 @@ pub(crate) fn serve<B: Store>(
     ensures served { OnOk result (IsServed script.now (system_of levels.old) entries.old u (system_of levels.new) entries.new) }
     ensures privates { OnErr result (levels.new.privates ≡ levels.old.privates) }
     ensures entries { OnErr result (entries.new ≡ entries.old) }
-    ensures users { length levels.new.privates.items ≡ length levels.old.privates.items }
+    ensures users { length levels.new.privates.value.items ≡ length levels.old.privates.value.items }
     ensures cause { MayStop (B.faults levels.old.pages.store) (B.faults levels.new.pages.store) result }
 {
     trace.clear();

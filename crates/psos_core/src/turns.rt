@@ -19,7 +19,7 @@ use std::alloc::Global;
 impl<B: Store> Core<B> {
     // All users, in the order of the script.
     fn everybody(&self) -> ArrayVec<u8, 8>
-        ensures { result.items ≡ range_with_len 0 (length self.now.levels.privates.items) }
+        ensures { result.items ≡ range_with_len 0 (length self.now.levels.privates.value.items) }
     {
         let mut users = ArrayVec::new();
         'users: for user in 0..self.levels.privates.len() {
@@ -45,7 +45,7 @@ impl<B: Store> Core<B> {
 
     // Whom to ask after an event, where these might go on before it: only a close lets a user go on that might not.
     fn asked_after(&self, event: Event, among: ArrayVec<u8, 8>) -> ArrayVec<u8, 8>
-        ensures { result.items ≡ (if is_close event then range_with_len 0 (length self.now.levels.privates.items) else among.items) }
+        ensures { result.items ≡ (if is_close event then range_with_len 0 (length self.now.levels.privates.value.items) else among.items) }
     {
         if event.is_close() {
             return self.everybody();
@@ -65,7 +65,7 @@ impl<B: Store> Core<B> {
             (IsTurnsOrderFrom self.old.script (system_of self.old.levels) seed)
             self.new.entries (system_of self.new.levels)) }
         ensures front { IsFrontFrom self.old.script (system_of self.old.levels) flat self.new.entries }
-        ensures settled { AreSettledFrom self.old.script (system_of self.old.levels) self.new.entries self.new.levels.privates.items }
+        ensures settled { AreSettledFrom self.old.script (system_of self.old.levels) self.new.entries self.new.levels.privates.value.items }
         ensures under_way { IsGoing self.new }
         ensures script { self.new.script ≡ self.old.script }
         ensures going { OnOk result (self.new.stopped ≡ None) }

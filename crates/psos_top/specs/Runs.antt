@@ -11,7 +11,7 @@ use Rattle.psos_script.specs.declared.fault.ReadFault.{ReadFault}
 use Rattle.psos_script.specs.declared.fault.ReadFault.TheVariants as R
 use Rattle.psos_core.specs.declared.levels.Levels.{Levels}
 use Rattle.psos_core.specs.declared.run.Core.{Core}
-use Rattle.psos_core.specs.declared.run.Parts.{Parts}
+use Rattle.psos_core.specs.declared.parts.Parts.{Parts}
 use Rattle.psos_core.specs.System.{system_of}
 use Rattle.psos_core.specs.Events.{IsAfter}
 use Rattle.psos_top.specs.declared.command.Command.{Command}

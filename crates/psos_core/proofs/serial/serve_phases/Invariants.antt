@@ -10,5 +10,5 @@ abbrev pub invariant-phases : goal.invariant-phases
 invariant-phases g l =
     (HasServed l.script g.start.system g.start.flat (system_of l.levels) l.entries l.p 0)
     × (g.B.Store.faults l.initial.levels.pages.store ≤ g.B.Store.faults l.levels.pages.store)
-    × (length l.levels.privates.items ≡ length l.initial.levels.privates.items)
+    × (length l.levels.privates.value.items ≡ length l.initial.levels.privates.value.items)
     × AreCounted l.script l.p 0 l.counts

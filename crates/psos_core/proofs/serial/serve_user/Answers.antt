@@ -44,4 +44,4 @@ pub returns-in_err-serve-clause-front : goal.returns-in_err-serve-clause-front
 returns-in_err-serve-clause-front g c = front_left _ _ _ _ _ _ _ _ c.requires.1.0 c.turns.invariant.0 c.in_err-serve.ensures.entries
 
 pub returns-in_err-serve-clause-settled : goal.returns-in_err-serve-clause-settled
-returns-in_err-serve-clause-settled g c = settled_left _ _ _ _ _ _ _ _ _ c.turns.invariant.0 c.in_err-serve.ensures.entries (ap (λ ps. ps.items) c.in_err-serve.ensures.privates)
+returns-in_err-serve-clause-settled g c = settled_left _ _ _ _ _ _ _ _ _ c.turns.invariant.0 c.in_err-serve.ensures.entries (ap (λ ps. ps.value.items) c.in_err-serve.ensures.privates)

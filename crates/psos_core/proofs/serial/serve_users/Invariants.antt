@@ -10,5 +10,5 @@ abbrev pub invariant-users : goal.invariant-users
 invariant-users g l =
     (HasServed l.script g.start.system g.start.flat (system_of l.levels) l.entries l.p l.u)
     × (g.B.Store.faults l.initial.levels.pages.store ≤ g.B.Store.faults l.levels.pages.store)
-    × (length l.levels.privates.items ≡ length l.initial.levels.privates.items)
+    × (length l.levels.privates.value.items ≡ length l.initial.levels.privates.value.items)
     × AreCounted l.script l.p l.u l.counts

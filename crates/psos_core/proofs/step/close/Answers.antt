@@ -83,7 +83,7 @@ returns-clause-happened g c =
     let phases : c.set.new.self ≡ map (phase_of s) (set now.users u (after s x w.effect)) =
     c.set.ensures ∙ phases_then _ _ _ _ _ _ _ closes c.as_mut_slice.result.now c.as_mut_slice.ensures.value c.index-as_mut_slice-u.is c.settle.new.self c.settle.ensures
     c.as_slice-3.result.now c.index-as_slice-u-3.result c.phase_of.result o.phases c.as_slice-3.ensures.value c.index-as_slice-u-3.is c.phase_of.ensures c.requires.may.planned.phases-are in
-    let m : Levels _ = record l { privates = record { items = refill (length now.users) now.users (set c.as_mut_slice.result.now u c.settle.new.self) } } in
+    let m : Levels _ = record l { privates = record { value = record { items = refill (length now.users) now.users (set c.as_mut_slice.result.now u c.settle.new.self) } } } in
     let p : Ongoing = record {
       held = c.release.new.self;
       traces = with_item o.traces u c.clear.new.self;

@@ -13,7 +13,7 @@ bounds-as_slice-user g c = omega (arith, c.requires, ap length c.as_slice.ensure
 pub is_current-requires : goal.is_current-requires
 is_current-requires g c =
     let core = c.args.self.now in
-    omega (arith, c.requires, core.planned.users, ap length core.planned.phases-are, length-map core.levels.privates.items (phase_of core.script))
+    omega (arith, c.requires, core.planned.users, ap length core.planned.phases-are, length-map core.levels.privates.value.items (phase_of core.script))
 
 pub returns-then-is_open : goal.returns-then-is_open
 returns-then-is_open g c =

@@ -42,8 +42,8 @@ invariant_of-result-clause-planned g c =
     let is = c.in_ok-ongoing.ensures in
     let start = c.requires.1 in
     let users = c.as_slice.ensures.value in
-    let all : length l.privates.items ≡ length s.users = ap (λ (us : List User). length us) start.stands.users ∙ start.start.sound.all_users in
-    let first : AreFirst s l.privates.items o.nexts.items = subst (λ (us : List User). AreFirst s us o.nexts.items) users is.nexts in
+    let all : length l.privates.value.items ≡ length s.users = ap (λ (us : List User). length us) start.stands.users ∙ start.start.sound.all_users in
+    let first : AreFirst s l.privates.value.items o.nexts.items = subst (λ (us : List User). AreFirst s us o.nexts.items) users is.nexts in
     let P : Script → Type 0 = λ z. IsPlanned z (state_in l o c.empty.result) o.nexts.items o.phases in
     subst P (sym c.script.view_is) (first_planned s l o c.empty.result all (is.held ∙ ap (λ (us : List User). replicate (length us) []) users)
     (is.traces ∙ ap (λ (us : List User). replicate (length us) []) users) first (is.phases ∙ ap (map (phase_of s)) users))

@@ -76,7 +76,7 @@ returns-then-is_empty-clause-front g c =
 
 pub returns-then-is_empty-clause-settled : goal.returns-then-is_empty-clause-settled
 returns-then-is_empty-clause-settled g c =
-    let P : Script → Type 0 = λ s. AreSettledFrom s (system_of c.args.self.now.levels) c.turns.self.entries c.turns.self.levels.privates.items in
+    let P : Script → Type 0 = λ s. AreSettledFrom s (system_of c.args.self.now.levels) c.turns.self.entries c.turns.self.levels.privates.value.items in
     subst P c.turns.invariant.1 (settled_here _ _ _ _ c.turns.invariant.0.after)
 
 -- ---- an event that stopped
@@ -91,5 +91,5 @@ returns-in_err-event-clause-front g c =
 
 pub returns-in_err-event-clause-settled : goal.returns-in_err-event-clause-settled
 returns-in_err-event-clause-settled g c =
-    let P : Script → Type 0 = λ s. AreSettledFrom s (system_of c.args.self.now.levels) c.event.new.self.entries c.event.new.self.levels.privates.items in
+    let P : Script → Type 0 = λ s. AreSettledFrom s (system_of c.args.self.now.levels) c.event.new.self.entries c.event.new.self.levels.privates.value.items in
     subst P (c.event.ensures.script ∙ c.turns.invariant.1) (settled_on _ _ _ _ _ (c.in_err-event.ensures.left _ _ c.turns.invariant.0.after))
