@@ -1,5 +1,5 @@
 -- A serial run on its way: from a start, request by request, to the end.
-use Rattle.std.proofs.Common.{◌≡◌, ℕ, ◌+◌, ◌-◌, ◌^◌, ◌<◌, ◌≤◌, List, [], ◌∷◌, ◌++◌, length, map, get_or, Option, Some, None, refl, sym, ap, ◌∙◌, subst, arith}
+use Rattle.std.proofs.Common.{◌≡◌, ℕ, ◌+◌, ◌-◌, ◌^◌, ◌<◌, ◌≤◌, List, [], ◌∷◌, ◌++◌, length, get_or, Option, Some, None, refl, sym, ap, ◌∙◌, subst, arith}
 use Rattle.std.specs.Prelude.{slice_get}
 use Rattle.std.proofs.lemmas.List.{length-append}
 use Rattle.std.proofs.lemmas.Option.{same_Some}
@@ -9,17 +9,14 @@ use Rattle.psos_calls.specs.Language.Script.{Script, requests_of, user_script}
 use Rattle.psos_calls.specs.Language.User.{User}
 use Rattle.psos_model.specs.Flat.{Flat}
 use Rattle.psos_model.specs.Answer.{answer}
-use Rattle.psos_model.specs.Flat.Boot.{boot}
 use Rattle.psos_model.specs.Run.{has_left, phase_of, run_from, IsLegalFrom}
 use Rattle.psos_model.specs.Events.{CoreState}
-use Rattle.psos_model.specs.Replay.{System, boot_system, replay_step, replay_from, entries_from, order_of, answered_of}
-use Rattle.psos_model.specs.Text.Output.{calls_of}
+use Rattle.psos_model.specs.Replay.{System, replay_step, replay_from, entries_from, order_of}
 use Rattle.psos_model.specs.Sound.{IsSound}
 use Rattle.psos_model.specs.Replay.StandsFor.{StandsFor}
 use Rattle.psos_model.specs.Run.SerialOrder.{IsFirst, IsSerialFrom}
 use Rattle.psos_model.proofs.RequestRanges.{can_count}
 use Rattle.psos_laws.proofs.SoundRuns.{runs_kept}
-use Rattle.psos_laws.proofs.PlacesRuns.{runs_are_lawful}
 use Rattle.psos_laws.proofs.RoomToStep.{can_step}
 use Rattle.psos_laws.proofs.OrderLengths.{orders_end}
 use Rattle.psos_laws.proofs.AnswerProgress.{AreGoing, turn, start_going}
@@ -27,7 +24,7 @@ use Rattle.psos_laws.proofs.CompleteOrders.{run_going}
 use Rattle.psos_laws.proofs.WatchedRuns.{next_most}
 use Rattle.psos_core.specs.UnderWay.{phases_most, asked_before, due, IsPast, IsAt, HasServed}
 use Rattle.psos_model.specs.Events.Serial.{IsCoreStart}
-use Rattle.psos_core.specs.Serving.{Asks, IsServed, IsFrontFrom, AreSettledFrom, IsRunFrom, IsWholeRun}
+use Rattle.psos_core.specs.Serving.{Asks, IsServed, IsFrontFrom, AreSettledFrom, IsRunFrom}
 use Rattle.psos_core.specs.EventStates.{IsOver}
 use Rattle.psos_core.proofs.UserSlots.{found_there}
 use Rattle.psos_core.proofs.WholeRuns.{front_of, run_of}

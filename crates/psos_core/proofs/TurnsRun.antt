@@ -1,5 +1,5 @@
 -- A run in drawn turns, on its way and at its end. States docs/program.md, "Turns".
-use Rattle.std.proofs.Common.{◌≡◌, ℕ, zero, suc, ◌+◌, ◌-◌, ◌<◌, ◌≤◌, Bool, true, false, cond, List, [], ◌∷◌, ◌++◌, length, map, get_or, Option, Some, None, refl, sym, ap, ◌∙◌, ◌⊎◌, inl, inr, subst, arith}
+use Rattle.std.proofs.Common.{◌≡◌, ℕ, zero, suc, ◌-◌, ◌<◌, ◌≤◌, Bool, true, false, cond, List, [], ◌∷◌, ◌++◌, length, get_or, Option, Some, None, refl, sym, ap, ◌∙◌, ◌⊎◌, inl, inr, subst, arith}
 use Rattle.std.specs.Prelude.{◌%◌, ◌==◌, ◌&&◌, not, slice_get, IsTrue}
 use Rattle.std.specs.List.{list_all}
 use Rattle.std.proofs.lemmas.Nat.{mod_below}
@@ -10,15 +10,11 @@ use Rattle.psos_text.specs.Draws.{first_draw, next_draw}
 use Rattle.psos_calls.specs.Language.Script.{Script}
 use Rattle.psos_calls.specs.Language.Tests.{if_there}
 use Rattle.psos_calls.specs.Language.User.{User}
-use Rattle.psos_model.specs.Run.{is_left, has_left, run_from}
-use Rattle.psos_model.specs.Replay.{System, replay_from, order_of, answered_of}
-use Rattle.psos_model.specs.Text.Output.{calls_of}
-use Rattle.psos_model.specs.Replay.StandsFor.{StandsFor}
+use Rattle.psos_model.specs.Run.{is_left, has_left}
+use Rattle.psos_model.specs.Replay.{replay_from, order_of}
 use Rattle.psos_model.specs.Events.{CoreState, core_of, core_step, core_after, is_enabled, AreEnabled}
 use Rattle.psos_model.specs.Events.Turns.{enabled_in, picked, AreDrawn, IsTurnsOrderFrom}
 use Rattle.psos_model.proofs.RequestsLeft.{fails}
-use Rattle.psos_laws.proofs.OrderLengths.{orders_end}
-use Rattle.psos_laws.proofs.PlacesRuns.{runs_are_lawful}
 use Rattle.psos_events.specs.Events.{system_in, gone}
 use Rattle.psos_events.proofs.EndState.{events_end}
 use Rattle.psos_events.proofs.EventBound.{events_go_on}
@@ -27,7 +23,6 @@ use Rattle.psos_events.proofs.ReplayInvariant.{stands_now}
 use Rattle.psos_core.specs.EventStates.{HasLed, IsUnderWay, GoesOn}
 use Rattle.psos_core.specs.Events.{MayHappen}
 use Rattle.psos_core.specs.Serving.{Start, IsFrontFrom, AreSettledFrom, IsRunFrom}
-use Rattle.psos_events.proofs.Replays.{runs_stand}
 use Rattle.psos_core.proofs.EventRun.{done}
 use Rattle.psos_core.proofs.WholeRuns.{front_of, run_of}
 

@@ -31,11 +31,7 @@ fn into_store<B: Store>(levels: Levels<B>) -> B
 
 impl<B: Store> Parts<B> {
     /// What a run leaves whose levels ended so: the levels where it was not stopped, and else the store beneath them.
-    pub fn new(
-        entries: Entries<Entry>,
-        levels: Levels<B>,
-        stopped: Option<StopCause>,
-    ) -> Parts<B>
+    pub fn new(entries: Entries<Entry>, levels: Levels<B>, stopped: Option<StopCause>) -> Parts<B>
         ensures entries { result.entries ≡ entries }
         ensures levels { result.levels ≡ levels_of_stop stopped levels }
         ensures store { result.store ≡ store_of_stop stopped levels.pages.store }

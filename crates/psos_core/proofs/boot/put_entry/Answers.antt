@@ -1,4 +1,4 @@
-use Rattle.std.proofs.Common.{◌≡◌, ◌+◌, ◌-◌, ◌*◌, ℕ, suc, sym, ap, subst, arith}
+use Rattle.std.proofs.Common.{◌+◌, ◌-◌, ◌*◌, sym, ap, subst}
 use Rattle.psos_calls.specs.Levels.Level7.{Pages}
 use Rattle.psos_calls.specs.Levels.Answers.{LevelAnswer}
 use Rattle.psos_core.proofs.BootTables.{can_put, was_put}

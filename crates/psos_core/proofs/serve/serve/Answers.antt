@@ -22,7 +22,7 @@ perform-requires g c κs within =
 pub bounds-as_mut_slice-u : goal.bounds-as_mut_slice-u
 bounds-as_mut_slice-u g c =
     let y = system_of c.args.levels.now in
-    let same : c.as_mut_slice.result.now ≡ y.users = c.as_mut_slice.ensures.value ∙ ap (λ p. p.value.items) c.in_ok-closing.ensures.privates in
+    let same : c.as_mut_slice.result.now ≡ y.users = (c.as_mut_slice.ensures.value ∙ ap (λ p. p.items) c.deref_mut.ensures.value) ∙ ap (λ p. p.value.items) c.in_ok-closing.ensures.privates in
     omega (arith, ap (λ (xs : List User). length xs) same, user_within c.args.script.now y c.args.u c.args.request.now c.requires.asks)
 
 pub settle-requires : goal.settle-requires
@@ -32,7 +32,7 @@ settle-requires g c =
     let u = c.args.u in
     let r = c.args.request.now in
     let asks = c.requires.asks in
-    let same : c.as_mut_slice.result.now ≡ y.users = c.as_mut_slice.ensures.value ∙ ap (λ p. p.value.items) c.in_ok-closing.ensures.privates in
+    let same : c.as_mut_slice.result.now ≡ y.users = (c.as_mut_slice.ensures.value ∙ ap (λ p. p.items) c.deref_mut.ensures.value) ∙ ap (λ p. p.value.items) c.in_ok-closing.ensures.privates in
     let found = c.index-as_mut_slice-u.result in
     let is = is_user s y u r asks c.as_mut_slice.result.now found same c.index-as_mut_slice-u.is in
     let P : User → Type 0 = λ x. CanSettle x c.in_ok-closing.closing.effect in
@@ -45,14 +45,14 @@ returns-clause-served g c =
     let u = c.args.u in
     let r = c.args.request.now in
     let asks = c.requires.asks in
-    let users-are : c.perform.new.levels.privates.value.items ≡ y.users = ap (λ p. p.value.items) c.in_ok-closing.ensures.privates in
+    let users-are : c.deref_mut.result.now.items ≡ y.users = ap (λ p. p.items) c.deref_mut.ensures.value ∙ ap (λ p. p.value.items) c.in_ok-closing.ensures.privates in
     let found = c.index-as_mut_slice-u.result in
     let is = is_user s y u r asks c.as_mut_slice.result.now found (c.as_mut_slice.ensures.value ∙ users-are) c.index-as_mut_slice-u.is in
     let reader = c.index-as_slice-u.result in
-    let read = is_user s y u r asks c.as_slice.result.now reader c.as_slice.ensures.value c.index-as_slice-u.is in
+    let read = is_user s y u r asks c.as_slice.result.now reader (c.as_slice.ensures.value ∙ ap (λ p. p.items) c.deref.ensures) c.index-as_slice-u.is in
     let settles = c.settle.ensures ∙ ap (λ (x : User). after s x c.in_ok-closing.closing.effect) (sym c.index-as_mut_slice-u.is) in
     let placed = c.place-n.ensures ∙ ap place_of read in
     let pushed : c.push.new.self ≡ c.args.entries.now ++ record { user = u; n = c.place-n.result.0; m = c.place-n.result.1; steps = c.in-Ok.steps; reply = c.in_ok-closing.closing.reply } ∷ [] = grind (arith, common_steps) in
     let G : List (Level × LevelCall) → List Entry = λ steps. c.args.entries.now ++ record { user = u; n = c.place-n.result.0; m = c.place-n.result.1; steps = steps; reply = c.in_ok-closing.closing.reply } ∷ [] in
-    served s y u r asks (get_or y.users u nobody) found c.settle.new.self c.perform.new.levels.privates.value.items c.as_mut_slice.result.now c.args.entries.now c.push.new.self _ _ c.in_ok-closing.closing.reply c.in_ok-closing.closing.effect
+    served s y u r asks (get_or y.users u nobody) found c.settle.new.self c.deref_mut.result.now.items c.as_mut_slice.result.now c.args.entries.now c.push.new.self _ _ c.in_ok-closing.closing.reply c.in_ok-closing.closing.effect
     c.place-n.result.0 c.place-n.result.1 (me_is s y u r asks) is users-are c.as_mut_slice.ensures.value c.in_ok-closing.ensures.ran settles placed (pushed ∙ ap G c.in-Ok.ensures)

@@ -51,27 +51,27 @@ make-requires-clause-room g c =
 pub planned-then-requires-clause-trace : goal.planned-then-requires-clause-trace
 planned-then-requires-clause-trace g c =
     let calls = is_calling _ _ _ _ c.args.level c.args.call.now c.requires.may c.requires.asked c.users.result.now c.lock_of-lock.result c.enabled.result c.users.ensures c.lock_of-lock.ensures c.enabled.ensures c.if-not-enabled.false in
-    let called = has_called _ _ _ _ _ _ calls c.as_slice.result.now c.index-as_slice-u.result (c.as_slice.ensures.value ∙ ap (λ ps. ps.value.items) c.in_ok-make.ensures.privates) c.index-as_slice-u.is c.index_mut.result.now c.make.new.trace c.index_mut.ensures.value c.in_ok-make.ensures.trace in
+    let called = has_called _ _ _ _ _ _ calls c.as_slice.result.now c.index-as_slice-u.result ((c.as_slice.ensures.value ∙ ap (λ p. p.items) c.deref.ensures) ∙ ap (λ ps. ps.value.items) c.in_ok-make.ensures.privates) c.index-as_slice-u.is c.index_mut.result.now c.make.new.trace c.index_mut.ensures.value c.in_ok-make.ensures.trace in
     can_plan_then _ _ _ _ _ _ _ _ c.index.result.now called c.index.ensures
 
 pub returns-clause-happened : goal.returns-clause-happened
 returns-clause-happened g c =
     let calls = is_calling _ _ _ _ c.args.level c.args.call.now c.requires.may c.requires.asked c.users.result.now c.lock_of-lock.result c.enabled.result c.users.ensures c.lock_of-lock.ensures c.enabled.ensures c.if-not-enabled.false in
-    let called = has_called _ _ _ _ _ _ calls c.as_slice.result.now c.index-as_slice-u.result (c.as_slice.ensures.value ∙ ap (λ ps. ps.value.items) c.in_ok-make.ensures.privates) c.index-as_slice-u.is c.index_mut.result.now c.make.new.trace c.index_mut.ensures.value c.in_ok-make.ensures.trace in
+    let called = has_called _ _ _ _ _ _ calls c.as_slice.result.now c.index-as_slice-u.result ((c.as_slice.ensures.value ∙ ap (λ p. p.items) c.deref.ensures) ∙ ap (λ ps. ps.value.items) c.in_ok-make.ensures.privates) c.index-as_slice-u.is c.index_mut.result.now c.make.new.trace c.index_mut.ensures.value c.in_ok-make.ensures.trace in
     has_stepped c.args.script.now c.args.levels.now c.make.new.levels c.args.ongoing.now c.args.entries.now c.args.user _ _ _ _ c.index.result.now c.planned-then.result called c.index.ensures c.in_ok-make.ensures.levels c.in_ok-make.ensures.privates c.planned-then.ensures.told
     (sym c.is_known-known.ensures ∙ c.if-not-known.false)
 
 pub returns-then-not-known-clause-left : goal.returns-then-not-known-clause-left
 returns-then-not-known-clause-left g c =
     let calls = is_calling _ _ _ _ c.args.level c.args.call.now c.requires.may c.requires.asked c.users.result.now c.lock_of-lock.result c.enabled.result c.users.ensures c.lock_of-lock.ensures c.enabled.ensures c.if-not-enabled.false in
-    let called = has_called _ _ _ _ _ _ calls c.as_slice.result.now c.index-as_slice-u.result (c.as_slice.ensures.value ∙ ap (λ ps. ps.value.items) c.in_ok-make.ensures.privates) c.index-as_slice-u.is c.index_mut.result.now c.make.new.trace c.index_mut.ensures.value c.in_ok-make.ensures.trace in
+    let called = has_called _ _ _ _ _ _ calls c.as_slice.result.now c.index-as_slice-u.result ((c.as_slice.ensures.value ∙ ap (λ p. p.items) c.deref.ensures) ∙ ap (λ ps. ps.value.items) c.in_ok-make.ensures.privates) c.index-as_slice-u.is c.index_mut.result.now c.make.new.trace c.index_mut.ensures.value c.in_ok-make.ensures.trace in
     has_stopped c.args.script.now c.args.levels.now c.make.new.levels c.args.ongoing.now c.args.entries.now c.args.user _ _ _ _ c.index.result.now c.planned-then.result called c.index.ensures c.in_ok-make.ensures.levels c.in_ok-make.ensures.privates c.planned-then.ensures.told
 
 pub returns-then-not-known-clause-why : goal.returns-then-not-known-clause-why
 returns-then-not-known-clause-why g c =
     let now = state_in c.args.levels.now c.args.ongoing.now c.args.entries.now in
     let calls = is_calling _ _ _ _ c.args.level c.args.call.now c.requires.may c.requires.asked c.users.result.now c.lock_of-lock.result c.enabled.result c.users.ensures c.lock_of-lock.ensures c.enabled.ensures c.if-not-enabled.false in
-    let called = has_called _ _ _ _ _ _ calls c.as_slice.result.now c.index-as_slice-u.result (c.as_slice.ensures.value ∙ ap (λ ps. ps.value.items) c.in_ok-make.ensures.privates) c.index-as_slice-u.is c.index_mut.result.now c.make.new.trace c.index_mut.ensures.value c.in_ok-make.ensures.trace in
+    let called = has_called _ _ _ _ _ _ calls c.as_slice.result.now c.index-as_slice-u.result ((c.as_slice.ensures.value ∙ ap (λ p. p.items) c.deref.ensures) ∙ ap (λ ps. ps.value.items) c.in_ok-make.ensures.privates) c.index-as_slice-u.is c.index_mut.result.now c.make.new.trace c.index_mut.ensures.value c.in_ok-make.ensures.trace in
     let P : Option Event → Type 0 = λ e. CanStopAt e (next_for c.args.script.now (core_step c.args.script.now now c.args.user) c.args.user) stops.Memory in
     subst P (sym (event_is_call _ _ _ _ _ _ calls))
     (inr (refl, closes_then _ _ _ _ _ _ _ _ c.index.result.now called c.index.ensures c.planned-then.result c.planned-then.ensures.told (sym c.is_known-known.ensures ∙ c.if-not-known.true)))

@@ -18,7 +18,7 @@ pub returns-clause-events : goal.returns-clause-events
 returns-clause-events g c = λ f start.
     let o = c.in_ok-ongoing.ongoing in
     let is = c.in_ok-ongoing.ensures in
-    let users = c.as_slice.ensures.value in
+    let users = (c.as_slice.ensures.value ∙ ap (λ p. p.items) c.deref.ensures) in
     first_led c.args.script _ c.args.levels o c.empty.result f start c.script.view_is c.empty.ensures
     (is.held ∙ ap (λ (us : List User). replicate (length us) []) users) (is.traces ∙ ap (λ (us : List User). replicate (length us) []) users)
 
@@ -26,7 +26,7 @@ pub invariant_of-result-clause-goes_on : goal.invariant_of-result-clause-goes_on
 invariant_of-result-clause-goes_on g c = λ none.
     let o = c.in_ok-ongoing.ongoing in
     let is = c.in_ok-ongoing.ensures in
-    let users = c.as_slice.ensures.value in
+    let users = (c.as_slice.ensures.value ∙ ap (λ p. p.items) c.deref.ensures) in
     merely (inl (record {
       start = record { system = system_of c.args.levels; flat = c.requires.0 };
       turns = [];
@@ -41,7 +41,7 @@ invariant_of-result-clause-planned g c =
     let o = c.in_ok-ongoing.ongoing in
     let is = c.in_ok-ongoing.ensures in
     let start = c.requires.1 in
-    let users = c.as_slice.ensures.value in
+    let users = (c.as_slice.ensures.value ∙ ap (λ p. p.items) c.deref.ensures) in
     let all : length l.privates.value.items ≡ length s.users = ap (λ (us : List User). length us) start.stands.users ∙ start.start.sound.all_users in
     let first : AreFirst s l.privates.value.items o.nexts.items = subst (λ (us : List User). AreFirst s us o.nexts.items) users is.nexts in
     let P : Script → Type 0 = λ z. IsPlanned z (state_in l o c.empty.result) o.nexts.items o.phases in
