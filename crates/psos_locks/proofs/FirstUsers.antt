@@ -24,7 +24,7 @@ use Rattle.psos_histories.specs.Pieces.{Piece, Box, piece_at}
 use Rattle.psos_histories.proofs.LockHistories.{histories_begin}
 use Rattle.psos_locks.specs.Opening.{AreInOrder, IsAtBoot, IsBootBox, AreBootBoxes, AreFirstParts, AreNewWith}
 use Rattle.psos_locks.specs.Runs.{IsOwn}
-use Rattle.psos_locks.specs.Users.{OwnView, UserView, new_user, IsUser}
+use Rattle.psos_locks.specs.Users.{OwnView, UserView, new_user, IsUser, AreNewUsers}
 use Rattle.psos_locks.proofs.ListPlaces.{front_get, last_get, each_front, each_last, each_more}
 
 -- ---- a lock
@@ -92,3 +92,10 @@ one_more_user n parts more x users more_users h is users_are =
     let before : (i : ℕ) (z : User) → slice_get parts i ≡ Some z → P i z = λ i z there. at_users i _ (front_get users (new_user n (length parts) x) i _ (h.each i z there)) in
     let last : P (length parts) x = at_users (length parts) _ (ap (slice_get (users ++ new_user n (length parts) x ∷ [])) (sym h.count) ∙ last_get users (new_user n (length parts) x)) in
     record { count = omega (arith, ap length users_are, ap length is, length_push users (new_user n (length parts) x), length_push parts x, h.count); each = each_more P more parts x is before last }
+
+-- users with all own parts at boot are the users before the first entry
+pub all_new : (s : Script) (parts : List User) (users : List UserView) → parts ≡ (boot_system s).users → AreNewWith (length s.users) parts users → AreNewUsers s users
+all_new s parts users same h = record {
+  all = h.count ∙ ap (λ (us : List User). length us) same ∙ users_count 0 s.users;
+  each = λ i x there. h.each i x (ap (λ (us : List User). slice_get us i) same ∙ there);
+}

@@ -14,6 +14,7 @@ use Rattle.psos_calls.specs.declared.lock_id.LockId.{LockId}
 use Rattle.psos_calls.specs.Language.Script.{Script, IsWellFormed}
 use Rattle.psos_calls.specs.Language.User.{User}
 use Rattle.psos_calls.specs.Levels.{Levels}
+use Rattle.psos_calls.specs.Levels.Level12.{BoxState}
 use Rattle.psos_calls.specs.Locks.{box_of}
 use Rattle.psos_calls.specs.Locks.Held.{is_lock}
 use Rattle.psos_model.specs.Flat.Boot.{boot}
@@ -33,11 +34,13 @@ use Rattle.psos_histories.specs.Grips.{Grip, IsFreeGrip}
 use Rattle.psos_histories.proofs.LockHistories.{histories_are_replay}
 use Rattle.psos_histories.proofs.OwnParts.{users_stay}
 use Rattle.psos_histories.proofs.RecordLimits.{records_have_users}
-use Rattle.psos_locks.specs.Ending.{MayHaveStopped, IsLeft, IsBoxOf, AreBoxesLeft, IsProcsLeft, HasMetAll, HaveEndedIn}
+use Rattle.psos_locks.specs.declared.left.Left.{Left}
+use Rattle.psos_locks.specs.Ending.{MayHaveStopped, IsLeft, IsBoxOf, AreBoxesLeft, IsProcsLeft, HasMetAll, HaveEndedIn, system_with, IsEachLeft, AreGiven}
 use Rattle.psos_core.specs.declared.levels.Levels as core
-use Rattle.psos_core.specs.declared.run.Parts.{Parts}
+use Rattle.psos_core.specs.declared.parts.Parts.{Parts}
 use Rattle.psos_core.specs.System.{system_of}
-use Rattle.psos_locks.specs.Ends.{HasEnded}
+use Rattle.psos_core.specs.Parts.{levels_of_stop, store_of_stop}
+use Rattle.psos_locks.specs.Ends.{HasEnded, IsGiven}
 use Rattle.psos_locks.specs.Grips.{level_lock}
 use Rattle.psos_locks.specs.Runs.{IsRun, IsOwn}
 use Rattle.psos_locks.specs.Users.{UserView, AreUsers}
@@ -237,3 +240,37 @@ pub left_later : (s : Script) (old new last : JournalState Entry) (lock : LockId
     → last.stopped ≡ None → IsLeft s last.entries lock piece
 left_later s old new last lock piece left more rest none =
     subst (λ (log : List (Entry × ℕ)). IsLeft s log lock piece) (sym (same_entries old last (then_stopped old new last more rest))) (left (not_before new last rest none))
+
+-- ---- all that a run leaves
+
+-- what is given of a run that ended with these levels
+pub is_given : {B : Type 0} (faults : B → ℕ) (stopped : Option StopCause) (l : core.Levels B) (levels : Option (core.Levels B)) (store : Option B) (count : ℕ) → levels ≡ levels_of_stop stopped l
+    → store ≡ store_of_stop stopped l.pages.store → count ≡ faults l.pages.store → IsGiven faults stopped levels store count
+is_given {B} faults None l levels store count levels_are store_is count_is =
+    (store_is, λ none. none-some l (sym none ∙ levels_are), subst (λ (o : Option (core.Levels B)). IfSome o (λ m. faults m.pages.store ≡ count)) (sym levels_are) (sym count_is))
+is_given {B} faults (Some cause) l levels store count levels_are store_is count_is =
+    (levels_are, λ none. none-some l.pages.store (sym none ∙ store_is), subst (λ (o : Option B). IfSome o (λ b. faults b ≡ count)) (sym store_is) (sym count_is))
+
+pub none_given : {B : Type 0} (faults : B → ℕ) (stopped : Option StopCause) (b : B) (count : ℕ) → (stopped ≡ None → ⊥) → count ≡ faults b → IsGiven {B = B} faults stopped None (Some b) count
+none_given faults None b count some count_is = absurd (some refl)
+none_given faults (Some cause) b count some count_is = (refl, λ none. none-some b (sym none), sym count_is)
+
+pub are_given : {B : Type 0} (left : Left B) (procs : Option BoxState) (boxes : BoxState) (stopped : Option StopCause) (l : core.Levels B) (levels : Option (core.Levels B)) → procs ≡ Some boxes
+    → system_of l ≡ system_with left boxes → levels ≡ levels_of_stop stopped l → IfSome levels (AreGiven left procs stopped)
+are_given left procs boxes None l levels is system levels_are =
+    subst (λ o. IfSome o (AreGiven left procs None)) (sym levels_are) (record { going = refl; boxes = boxes; boxes_are = is; system = system })
+are_given left procs boxes (Some cause) l levels is system levels_are = subst (λ o. IfSome o (AreGiven left procs (Some cause))) (sym levels_are) tt
+
+module _ {B : Type 0} (s : Script) (well : IsWellFormed s) (log : List (Entry × ℕ)) (recorded : IsRun s log) (left : Left B) where
+  replay_left : (boxes : BoxState) → IsProcsLeft s log boxes → IsEachLeft s log left → system_with left boxes ≡ replay_in s (boot_system s) log
+  replay_left boxes procs h =
+      let y = replay_in s (boot_system s) log in
+      let levels = levels_left s well log recorded (system_with left boxes).levels procs h.codes h.life h.dirs h.types h.segs h.pages h.issuer in
+      ap (λ (l : Levels). (let z : System = record { levels = l; users = left.parts.value.items } in z)) levels
+      ∙ ap (λ (us : List User). (let z : System = record { levels = y.levels; users = us } in z)) h.users
+
+  -- the levels that are given are those of the replay
+  pub levels_given : (procs : Option BoxState) (stopped : Option StopCause) (levels : Option (core.Levels B)) → IfSome levels (AreGiven left procs stopped) → IfSome procs (IsProcsLeft s log)
+      → (stopped ≡ None → IsEachLeft s log left) → IfSome levels (λ l. system_of l ≡ replay_in s (boot_system s) log)
+  levels_given procs stopped None h boxes each = tt
+  levels_given procs stopped (Some l) h boxes each = h.system ∙ replay_left h.boxes (subst (λ o. IfSome o (IsProcsLeft s log)) h.boxes_are boxes) (each h.going)

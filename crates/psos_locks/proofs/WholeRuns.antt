@@ -9,7 +9,7 @@ use Rattle.psos_model.specs.Run.{has_left, is_open, phase_of}
 use Rattle.psos_model.specs.Replay.{System, boot_system, replay_from, order_of}
 use Rattle.psos_events.proofs.EventConditions.{boot_is_core_start}
 use Rattle.psos_core.specs.declared.levels.Levels.{Levels}
-use Rattle.psos_core.specs.declared.run.Parts.{Parts}
+use Rattle.psos_core.specs.declared.parts.Parts.{Parts}
 use Rattle.psos_core.specs.System.{system_of}
 use Rattle.psos_core.specs.Serving.{IsFrontFrom, IsWholeRun}
 use Rattle.psos_core.proofs.WholeRuns.{front_of, run_of, whole_run}

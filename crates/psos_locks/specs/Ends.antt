@@ -12,7 +12,7 @@ use Rattle.logbook.specs.Pages.{Book}
 use Rattle.psos_journal.specs.Members.{entries_of, named}
 use Rattle.psos_journal.specs.Views.{Ready, AreNamed, list_of}
 use Rattle.psos_core.specs.declared.levels.Levels.{Levels}
-use Rattle.psos_core.specs.declared.run.Parts.{Parts}
+use Rattle.psos_core.specs.declared.parts.Parts.{Parts}
 use Rattle.psos_core.specs.System.{system_of}
 use Rattle.psos_core.specs.Serving.{IsFrontFrom, IsWholeRun}
 use Rattle.psos_histories.specs.Names.{members_for}

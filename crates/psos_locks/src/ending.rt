@@ -4,15 +4,21 @@ ghost use Rattle.psos_calls.specs.Language.Script.{IsWellFormed};
 ghost use Rattle.psos_calls.specs.declared.level.Level.TheVariants.{L12};
 ghost use Rattle.psos_histories.specs.Pieces.{Box};
 ghost use Rattle.psos_locks.specs.Ending.{AreBoxesLeft, HasMetAll, HaveEndedIn, IsBoxOf, IsLeft, IsProcsLeft, MayHaveStopped};
+ghost use Rattle.psos_locks.specs.Ends.{CountsFaults, HasEnded, IsGiven};
+ghost use Rattle.psos_locks.specs.Users.{AreUsers};
 
 use crate::book::Book;
 use crate::held::Held;
+use crate::left::Left;
+use crate::locks::Locks;
 use crate::own::Own;
 use crate::part::Part;
 use crate::run::Run;
 use crate::user::UserState;
 use arrayvec::ArrayVec;
 use psos_calls::Private;
+use psos_core::Parts;
+use psos_io::Store;
 use psos_journal::StopCause;
 use psos_procs::{Mailbox, Procs};
 use std::alloc::Global;
@@ -20,9 +26,8 @@ use std::sync::Mutex;
 
 // ---- locks
 
-/// What lies under a lock when a run ends. Its member meets the journal, and where the lock is broken, the run is stopped
-/// for want of memory, if it was not before (docs/levels.md, "Locks").
-pub fn end_lock<T: Run, K: Part>(book: &mut Book<T>, lock: Mutex<Held<T, K>>) -> K
+// What lies under a lock, whose member meets the journal. Where the lock is broken, the run is stopped.
+fn end_lock<T: Run, K: Part>(book: &mut Book<T>, lock: Mutex<Held<T, K>>) -> K
     ensures book { MayHaveStopped book.old book.new }
     ensures fits { K.fits result (length T.script.users) }
     ensures left { book.new.stopped ≡ None → IsLeft T.script book.old.entries (K.lock result) (K.piece result) }
@@ -78,9 +83,8 @@ fn end_box<T: Run>(book: &mut Book<T>, lock: Mutex<Held<T, Mailbox>>, user: usiz
     mailbox
 }
 
-/// Level 12 when a run ends, from the locks of so many users. None only where the run is stopped, also where memory for
-/// the list of mailboxes is wanting (docs/levels.md, "Locks").
-pub fn end_procs<T: Run>(
+// Level 12 from the locks of so many users. None only where the run is stopped.
+fn end_procs<T: Run>(
     book: &mut Book<T>,
     alloc: Global,
     mut locks: Vec<Mutex<Held<T, Mailbox>>>,
@@ -126,9 +130,8 @@ fn end_user<T: Run>(book: &mut Book<T>, user: UserState<T>) -> Private
     private
 }
 
-/// The own parts of the first users when a run ends, in order, behind none. Their members meet the journal, and where one
-/// is halted, the run is stopped for want of memory, if it was not before (docs/levels.md, "Locks").
-pub fn end_users<T: Run>(
+// The own parts of the first users, in order, behind none.
+fn end_users<T: Run>(
     book: &mut Book<T>,
     users: &mut Vec<UserState<T>>,
     privates: &mut ArrayVec<Private, 8>,
@@ -145,4 +148,57 @@ pub fn end_users<T: Run>(
     let private = end_user(book, user);
     end_users(book, users, privates);
     privates.push(private);
+}
+
+// ---- all
+
+impl<T: Run, B: Store> Locks<T, B> {
+    /// What a run of threads leaves, when all its threads are done: these are all its users. It was stopped for the
+    /// journal's first cause; or, where there is none, for want of memory, where a user is halted, a lock is broken, or
+    /// the list of mailboxes finds no memory. The entries are given without a copy, and the levels' states where it was
+    /// not stopped; else the store is (docs/levels.md, "Locks" and "Journal").
+    pub fn into_parts(self, alloc: Global, mut users: Vec<UserState<T>>) -> Parts<B>
+        requires well_formed { IsWellFormed T.script }
+        requires users { AreUsers T.script users.items }
+        ensures ended { HasEnded T.script users.items result }
+        ensures given { IsGiven B.faults result.stopped result.levels result.store result.store_faults }
+        ensures counted { CountsFaults T.faults_before result.store_faults result.stopped }
+    {
+        let Locks {
+            codes,
+            boxes,
+            life,
+            dirs,
+            types,
+            segs,
+            pages,
+            issuer,
+            journal,
+            mut parts,
+        } = self;
+        let mut book = journal.into_inner();
+        let count = users.len();
+        parts.clear();
+        end_users(&mut book, &mut users, &mut parts);
+        let procs = end_procs(&mut book, alloc, boxes, count);
+        let codes = end_lock(&mut book, codes);
+        let life = end_lock(&mut book, life);
+        let dirs = end_lock(&mut book, dirs);
+        let types = end_lock(&mut book, types);
+        let segs = end_lock(&mut book, segs);
+        let pages = end_lock(&mut book, pages);
+        let issuer = end_lock(&mut book, issuer);
+        let (entries, stopped, mut faults) = book.end(alloc);
+        let left = Left {
+            codes,
+            life,
+            dirs,
+            types,
+            segs,
+            pages: pages.end(&mut faults),
+            issuer,
+            parts,
+        };
+        left.into_parts(procs, entries, stopped)
+    }
 }

@@ -15,7 +15,8 @@ use crate::hands::Hands;
 use crate::held::Held;
 use crate::part::Part;
 use crate::run::Run;
-use psos_calls::{Entry, Level, LevelCall, part_of};
+use arrayvec::ArrayVec;
+use psos_calls::{Entry, Level, LevelCall, Private, part_of};
 use psos_caps::Issuer;
 use psos_codes::Codes;
 use psos_dirs::Dirs;
@@ -28,6 +29,7 @@ use psos_types::Types;
 use std::sync::{Mutex, MutexGuard, Wait};
 
 /// The locks of a run: one for each level but 12, one for each mailbox, and that of the journal, which is taken last.
+/// Beside them lies the room into which the users' own parts go at the end.
 #[derive(Drop)]
 pub struct Locks<T: Run, B: Store> {
     pub(crate) codes: Mutex<Held<T, Codes>>,
@@ -39,6 +41,7 @@ pub struct Locks<T: Run, B: Store> {
     pub(crate) pages: Mutex<Held<T, CountedPages<T, B>>>,
     pub(crate) issuer: Mutex<Held<T, Issuer>>,
     pub(crate) journal: Mutex<Book<T>>,
+    pub(crate) parts: Box<ArrayVec<Private, 8>>,
 }
 
 // Takes a lock, and holds it at its place. False where it is broken: it is free again, and the place is as it was.

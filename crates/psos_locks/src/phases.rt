@@ -1,6 +1,5 @@
 // All phases of a run of threads.
 ghost use Rattle.std.specs.Prelude.{◌≡◌};
-ghost use Rattle.psos_core.specs.UnderWay.{phases_most};
 ghost use Rattle.psos_calls.specs.Language.Script.{IsWellFormed};
 ghost use Rattle.psos_locks.specs.Users.{AreNewUsers, AreUsers, AreOver};
 ghost use Rattle.psos_locks.specs.Stages.{AreBefore, AreServed, are_going};
@@ -10,24 +9,14 @@ use crate::meet::meet;
 use crate::run::Run;
 use crate::scene::Scene;
 use crate::user::UserState;
-use psos_calls::{Script, UserText};
+use psos_calls::Script;
+use psos_core::phases_of;
 use psos_io::{Gate, Store};
 use psos_users::one_phase;
 use std::alloc::Global;
 use std::marker::{Send, Sync};
 use std::sync::Wait;
 use std::thread::Threads;
-
-// As many phases as the user with the most has.
-fn phases_of(users: &[UserText]) -> usize
-    ensures { result ≡ phases_most users.now }
-{
-    let mut most = 0;
-    'users: for user in users {
-        most = most.max(user.phases().len());
-    }
-    most
-}
 
 // Whether nobody is halted.
 fn are_going<T: Run>(users: &[UserState<T>]) -> bool
