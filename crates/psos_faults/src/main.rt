@@ -1,11 +1,16 @@
 //! Runs the command `serial` on one script with a source that fails in each of its calls in turn, and then with such a sink,
-//! and on the script that comes on standard input with such a store, and prints how each run ends.
+//! and on the script that comes on standard input with such a store; then scripts that write and read pages in turn, with a
+//! store that fails in its last call, and behind it; and prints how each run ends.
 #![tactic(auto)]
 
+mod end;
+mod scripts;
+
+use end::{End, put};
 use psos_io::{MemSink, MemSource, StdSink, StdSource, put_all, read_all};
 use psos_store::MemStore;
-use psos_text::put_number;
-use psos_top::{Outcome, serial_call};
+use psos_top::{serial_call, turns_call};
+use scripts::{one_user, three_users};
 use std::alloc::{AllocError, Global};
 use std::process::ExitCode;
 
@@ -20,6 +25,17 @@ const WRITES: u64 = 38;
 // Calls of the store over eight frames, and one more.
 const STORE_CALLS: u64 = 19;
 
+// How a script is run.
+#[derive(Clone, Copy)]
+enum Way {
+    // Serially, over eight frames.
+    Serial,
+    // In turns, over eight frames.
+    Turns,
+    // In turns, over as many frames as there can be.
+    TurnsInAll,
+}
+
 // The call that fails.
 fn failing(alloc: Global, call: u64) -> Result<Vec<u64>, AllocError> {
     let mut calls = Vec::new(alloc);
@@ -27,42 +43,22 @@ fn failing(alloc: Global, call: u64) -> Result<Vec<u64>, AllocError> {
     Ok(calls)
 }
 
-fn put(alloc: Global, out: &mut Vec<u8>, text: &[u8], number: u64) -> Result<(), AllocError> {
-    out.extend_from_slice(text)?;
-    put_number(alloc, out, number)
-}
-
-// How a run ended, and what it wrote.
-fn put_end(
-    alloc: Global,
-    out: &mut Vec<u8>,
-    outcome: &Outcome<MemStore>,
-    wrote: &[u8],
-) -> Result<(), AllocError> {
-    put(alloc, out, b": status ", u64::from(outcome.status))?;
-    put(alloc, out, b", entries ", u64::from(outcome.entries.len()))?;
-    put(
-        alloc,
-        out,
-        b", levels ",
-        u64::from(outcome.levels.is_some()),
-    )?;
-    put(alloc, out, b", store faults ", outcome.store_faults)?;
-    out.extend_from_slice(b"\n")?;
-    out.extend_from_slice(wrote)?;
-    out.extend_from_slice(b"\n")
-}
-
-// Runs a script over eight frames and a store in which these calls fail. The contract of the command is looked at here
-// alone.
+// Runs a script over a store in which these calls fail. The contracts of the commands are looked at here alone, and what
+// they give is dropped here.
 fn run(
     alloc: Global,
+    way: Way,
     input: &mut MemSource,
     output: &mut MemSink,
     fails: Vec<u64>,
-) -> Result<Outcome<MemStore>, AllocError> {
+) -> Result<End, AllocError> {
     let store = MemStore::new(alloc, fails)?;
-    Ok(serial_call(alloc, 8, input, output, store))
+    let outcome = match way {
+        Way::Serial => serial_call(alloc, 8, input, output, store),
+        Way::Turns => turns_call(alloc, 8, 5, input, output, store),
+        Way::TurnsInAll => turns_call(alloc, 256, 5, input, output, store),
+    };
+    Ok(End::of(&outcome))
 }
 
 // The run in which this call of the source fails. It gives one byte a call.
@@ -70,9 +66,9 @@ fn read_fails(alloc: Global, out: &mut Vec<u8>, call: u64) -> Result<(), AllocEr
     let mut input = MemSource::new(SCRIPT.to_vec(alloc)?, 1, failing(alloc, call)?);
     let mut output = MemSink::new(4, Vec::new(alloc));
     output.reserve(alloc, 1000)?;
-    let outcome = run(alloc, &mut input, &mut output, Vec::new(alloc))?;
+    let end = run(alloc, Way::Serial, &mut input, &mut output, Vec::new(alloc))?;
     put(alloc, out, b"read ", call)?;
-    put_end(alloc, out, &outcome, output.bytes())
+    end.put(alloc, out, output.bytes())
 }
 
 // The run in which this call of the sink fails. It takes one byte a call.
@@ -80,27 +76,28 @@ fn write_fails(alloc: Global, out: &mut Vec<u8>, call: u64) -> Result<(), AllocE
     let mut input = MemSource::new(SCRIPT.to_vec(alloc)?, 4, Vec::new(alloc));
     let mut output = MemSink::new(1, failing(alloc, call)?);
     output.reserve(alloc, 1000)?;
-    let outcome = run(alloc, &mut input, &mut output, Vec::new(alloc))?;
+    let end = run(alloc, Way::Serial, &mut input, &mut output, Vec::new(alloc))?;
     put(alloc, out, b"write ", call)?;
-    put_end(alloc, out, &outcome, output.bytes())
+    end.put(alloc, out, output.bytes())
 }
 
 // The run of a script in which this call of the store fails.
 fn store_fails(
     alloc: Global,
     out: &mut Vec<u8>,
-    pages: &[u8],
+    way: Way,
+    script: &[u8],
     call: u64,
 ) -> Result<(), AllocError> {
-    let mut input = MemSource::new(pages.to_vec(alloc)?, 4096, Vec::new(alloc));
+    let mut input = MemSource::new(script.to_vec(alloc)?, 4096, Vec::new(alloc));
     let mut output = MemSink::new(4096, Vec::new(alloc));
-    output.reserve(alloc, 1000)?;
-    let outcome = run(alloc, &mut input, &mut output, failing(alloc, call)?)?;
+    output.reserve(alloc, 4096)?;
+    let end = run(alloc, way, &mut input, &mut output, failing(alloc, call)?)?;
     put(alloc, out, b"store ", call)?;
-    put_end(alloc, out, &outcome, output.bytes())
+    end.put(alloc, out, output.bytes())
 }
 
-// All runs, those with a failing store of this script.
+// All runs, those in which each call of the store fails in turn of this script.
 fn runs(alloc: Global, pages: &[u8]) -> Result<Vec<u8>, AllocError> {
     let mut out = Vec::new(alloc);
     'reads: for call in 1..READS + 1 {
@@ -110,8 +107,26 @@ fn runs(alloc: Global, pages: &[u8]) -> Result<Vec<u8>, AllocError> {
         write_fails(alloc, &mut out, call)?;
     }
     'calls: for call in 1..STORE_CALLS + 1 {
-        store_fails(alloc, &mut out, pages, call)?;
+        store_fails(alloc, &mut out, Way::Serial, pages, call)?;
     }
+    Ok(out)
+}
+
+// The runs of scripts that have just so many calls of the store.
+fn counts(alloc: Global, out: &mut Vec<u8>) -> Result<(), AllocError> {
+    let one = one_user(alloc)?;
+    store_fails(alloc, out, Way::Serial, &one, 10)?;
+    store_fails(alloc, out, Way::Serial, &one, 11)?;
+    let three = three_users(alloc)?;
+    store_fails(alloc, out, Way::Turns, &three, 53)?;
+    store_fails(alloc, out, Way::Turns, &three, 54)?;
+    store_fails(alloc, out, Way::TurnsInAll, &three, 1)
+}
+
+// What the program prints.
+fn text(alloc: Global, pages: &[u8]) -> Result<Vec<u8>, AllocError> {
+    let mut out = runs(alloc, pages)?;
+    counts(alloc, &mut out)?;
     Ok(out)
 }
 
@@ -120,7 +135,7 @@ fn main(rt: HostRuntime) -> ExitCode {
     let Ok(pages) = read_all(rt.alloc(), &mut StdSource::new(rt.stdin())) else {
         return ExitCode::from(3);
     };
-    let Ok(text) = runs(rt.alloc(), &pages) else {
+    let Ok(text) = text(rt.alloc(), &pages) else {
         return ExitCode::from(6);
     };
     match put_all(&mut output, &text) {

@@ -2,4 +2,5 @@ pub mod FirstFault
 pub mod RunPrinting
 pub mod CommandEnds
 pub mod ReadScripts
+pub mod ThreadRuns
 pub mod OptionPairs

@@ -8,7 +8,7 @@ use Rattle.std.specs.declared.vec.IntoIter.{IntoIter}
 use Rattle.psos_limits.specs.declared.TheConstants.{MOST_PAGE_FRAMES, LEAST_PAGE_FRAMES}
 use Rattle.psos_text.specs.Number.{number_of}
 use Rattle.psos_top.specs.declared.command.Command.{Command}
-use Rattle.psos_top.specs.declared.command.Command.TheVariants.{Serial, Turns}
+use Rattle.psos_top.specs.declared.command.Command.TheVariants.{Serial, Turns, Run}
 use Rattle.psos_top.specs.declared.words.Options.{Options}
 use Rattle.psos_top.specs.declared.words.Asked.{Asked}
 
@@ -26,15 +26,18 @@ abbrev pub command_of : List ℕ → Option Command
 command_of word =
     if bytes_eq word (codes "serial") then Some Serial
     else if bytes_eq word (codes "turns") then Some (Turns 1)
+    else if bytes_eq word (codes "run") then Some Run
     else None
 
 abbrev pub takes_seed : Command → Bool
 takes_seed Serial = false
 takes_seed (Turns seed) = true
+takes_seed Run = false
 
 abbrev pub with_seed : Command → Option ℕ → Command
 with_seed Serial seed = Serial
 with_seed (Turns other) seed = Turns (unwrap_or seed other)
+with_seed Run seed = Run
 
 -- ---- the options
 

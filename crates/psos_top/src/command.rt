@@ -7,4 +7,6 @@ pub enum Command {
     Serial,
     /// In turns, which are drawn from this seed.
     Turns(u64),
+    /// Each user's requests by a thread of its own.
+    Run,
 }

@@ -10,6 +10,7 @@ use crate::Command;
 use crate::arguments::words_of;
 use crate::ending::stop;
 use crate::outcome::Outcome;
+use crate::run::run_call;
 use crate::serial::serial_call;
 use crate::turns::turns_call;
 use crate::words::read_words;
@@ -23,15 +24,15 @@ use std::sync::Wait;
 use std::thread::Threads;
 
 /// The program: the words of the command line, without its own name, say what is done (docs/program.md,
-/// "Commands"). All output goes to the sink. The gate is told of nothing today.
+/// "Commands"). All output goes to the sink. The gate is told of the level calls and closes of `run`.
 pub fn psos_main<R: Threads + Wait + Sync, I: Source, K: Sink, B: Store + Send, G: Gate + Sync>(
-    _rt: &R,
+    rt: &R,
     alloc: Global,
     words: &[String],
     input: &mut I,
     output: &mut K,
     store: B,
-    _gate: &G,
+    gate: &G,
 ) -> Outcome<B>
     // At 1, and only there, the words have not the shape, and nothing is read.
     ensures usage { (result.status ≡ 1) ↔ (words_asked (map string_bytes words.now) ≡ None) }
@@ -64,6 +65,7 @@ pub fn psos_main<R: Threads + Wait + Sync, I: Source, K: Sink, B: Store + Send, 
     match asked.command {
         Command::Serial => serial_call(alloc, asked.frames, input, output, store),
         Command::Turns(seed) => turns_call(alloc, asked.frames, seed, input, output, store),
+        Command::Run => run_call(rt, alloc, asked.frames, input, output, store, gate),
     }
 }
 

@@ -32,6 +32,9 @@ fn command_of(word: &str) -> Option<Command>
     if word == "turns" {
         return Some(Command::Turns(1));
     }
+    if word == "run" {
+        return Some(Command::Run);
+    }
     None
 }
 
@@ -125,6 +128,7 @@ fn with_seed(command: Command, seed: Option<u64>) -> Command
     match command {
         Command::Serial => Command::Serial,
         Command::Turns(other) => Command::Turns(seed.unwrap_or(other)),
+        Command::Run => Command::Run,
     }
 }
 

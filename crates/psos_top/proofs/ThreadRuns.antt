@@ -1,0 +1,56 @@
+-- What a run of threads leaves.
+use Rattle.std.proofs.Common.{◌≡◌, ℕ, List, Option, Some, None, refl, sym}
+use Rattle.std.specs.Prelude.{IfSome, IsSomeAnd}
+use Rattle.psos_calls.specs.declared.entry.Entry.{Entry}
+use Rattle.psos_calls.specs.Language.Script.{Script}
+use Rattle.psos_model.specs.Replay.{System}
+use Rattle.psos_journal.specs.declared.stop_cause.StopCause.{StopCause}
+use Rattle.psos_core.specs.declared.levels.Levels.{Levels}
+use Rattle.psos_core.specs.declared.parts.Parts.{Parts}
+use Rattle.psos_core.specs.System.{system_of}
+use Rattle.psos_core.specs.Serving.{IsWholeRun}
+use Rattle.psos_locks.specs.Ends.{HasRun, IsGiven, CountsFaults}
+use Rattle.psos_top.specs.declared.command.Command.TheVariants.{Run}
+use Rattle.psos_top.specs.Orders.{IsRunBy}
+use Rattle.psos_top.specs.Runs.{IsLeftBy}
+
+-- a whole run in any order is one by the command
+run_by : (s : Script) (entries : List Entry) (left : System) → IsWholeRun s (λ order. Unit {0}) entries left → IsRunBy Run s entries left
+run_by s entries left h = record {
+  complete = h.complete;
+  faithful = h.faithful;
+  ordered = tt;
+  few = h.few;
+  replayed = h.replayed;
+  stands = h.stands;
+  lawful = h.lawful;
+}
+
+whole_by : {B : Type 0} (s : Script) (entries : List Entry) (levels : Option (Levels B)) → IfSome levels (λ (l : Levels B). IsWholeRun s (λ order. Unit {0}) entries (system_of l))
+    → IfSome levels (λ (l : Levels B). IsRunBy Run s entries (system_of l))
+whole_by s entries None h = tt
+whole_by s entries (Some l) h = run_by s entries (system_of l) h
+
+-- levels that are given have the count
+within_by : {B : Type 0} (faults : B → ℕ) (stopped : Option StopCause) (levels : Option (Levels B)) (store : Option B) (count : ℕ) → IsGiven faults stopped levels store count
+    → IfSome levels (λ (l : Levels B). count ≡ faults l.pages.store)
+within_by faults stopped None store count h = tt
+within_by faults None (Some l) store count h = sym h.2
+within_by faults (Some cause) (Some l) store count h = absurd (let e = h.0 in cc)
+
+-- and else the store has it
+back_by : {B : Type 0} (faults : B → ℕ) (stopped : Option StopCause) (levels : Option (Levels B)) (store : Option B) (count : ℕ) → IsGiven faults stopped levels store count → levels ≡ None
+    → IsSomeAnd store (λ b. count ≡ faults b)
+back_by faults None levels store count h none = absurd (h.1 none)
+back_by faults (Some cause) levels None count h none = absurd (h.1 refl)
+back_by faults (Some cause) levels (Some b) count h none = sym h.2
+
+pub threads_left : {B : Type 0} (faults : B → ℕ) (s : Script) (start : ℕ) (parts : Parts B) → HasRun s parts → IsGiven faults parts.stopped parts.levels parts.store parts.store_faults
+    → CountsFaults start parts.store_faults parts.stopped → IsLeftBy faults start Run s parts
+threads_left faults s start parts ran given counted = record {
+  whole = whole_by s parts.entries parts.levels ran.whole;
+  within = within_by faults parts.stopped parts.levels parts.store parts.store_faults given;
+  back = back_by faults parts.stopped parts.levels parts.store parts.store_faults given;
+  later = counted.later;
+  rose = counted.rose;
+}
