@@ -3,3 +3,5 @@ pub mod RunPrinting
 pub mod CommandEnds
 pub mod ReadScripts
 pub mod OptionPairs
+pub mod LoadEndings
+pub mod AskedCommands
