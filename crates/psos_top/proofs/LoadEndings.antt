@@ -11,16 +11,29 @@ use Rattle.psos_calls.specs.Language.Script.{Script}
 use Rattle.psos_model.specs.Text.Spelling.{IsScript}
 use Rattle.psos_model.specs.Text.Output.{calls_of, done_text}
 use Rattle.psos_model.specs.Text.Load.{load_text, load_head, load_output, forms_text}
-use Rattle.psos_model.specs.Run.{IsComplete}
-use Rattle.psos_model.specs.Replay.{System, order_of, answered_of}
+use Rattle.psos_model.specs.Run.{answers, IsComplete}
+use Rattle.psos_model.specs.Replay.{System, order_of}
 use Rattle.psos_journal.specs.declared.stop_cause.StopCause.{StopCause}
 use Rattle.psos_journal.specs.declared.stop_cause.StopCause.TheVariants.{Store, Memory}
 use Rattle.psos_script.proofs.Outcome.{one_script}
+use Rattle.psos_script.specs.declared.fault.ReadFault.{ReadFault}
+use Rattle.psos_script.specs.declared.fault.ReadFault.TheVariants as R
+use Rattle.psos_script.specs.declared.fault.ScriptFault.{ScriptFault}
+use Rattle.psos_script.specs.Answers.{SpellsNone}
 use Rattle.psos_top.specs.declared.command.Command.TheVariants.{Turns}
 use Rattle.psos_top.specs.Orders.{IsRunBy}
 use Rattle.psos_top.specs.Outcome.{Stream, Given, Writes, stopped_text, IsNoRun, RanToEnd}
 use Rattle.psos_top.specs.Runs.{status_of_stop, TellsStop}
 use Rattle.psos_top.specs.Loading.{IsMadeFrom, counts_text, IsLoaded, LoadEnds}
+
+-- ---- the script
+
+-- a text that spells a script has no fault
+pub no_fault : (bytes text : List ℕ) (s : Script) (e : ReadFault) (f : ScriptFault) → bytes ≡ text → e ≡ R.Script f → SpellsNone bytes e → IsScript text s → ⊥
+no_fault bytes text s e f same is none spelled =
+    let P : ReadFault → Type 0 = λ q. SpellsNone bytes q in
+    let Q : List ℕ → Type 0 = λ b. IsScript b s in
+    subst P is none s (subst Q (sym same) spelled)
 
 -- ---- what is printed
 
@@ -31,8 +44,8 @@ output_is users lines seed head s es left made run =
     let many : length es ≡ length (order_of es) = sym (length-map es (λ (e : Entry). e.user)) in
     ap (λ text. text ++ counts_text es) made.head-is
     ∙ (ap (λ all. load_head users lines seed ++ (forms_text all ++ done_text (length es) (calls_of es))) run.faithful.answered
-    ∙ (ap (λ n. load_head users lines seed ++ (forms_text (map answered_of es) ++ done_text n (calls_of es))) many
-    ∙ ap (λ all. load_head users lines seed ++ (forms_text (map answered_of es) ++ done_text (length (order_of es)) (calls_of all))) run.faithful.replayed))
+    ∙ (ap (λ n. load_head users lines seed ++ (forms_text (answers s (order_of es)) ++ done_text n (calls_of es))) many
+    ∙ ap (λ all. load_head users lines seed ++ (forms_text (answers s (order_of es)) ++ done_text (length (order_of es)) (calls_of all))) run.faithful.replayed))
 
 -- the same of what was put
 loaded : (users lines seed : ℕ) (Put : List ℕ → Type 0) (head text : List ℕ) (s : Script) (es : List Entry) (left : System) (status start now : ℕ)
@@ -128,3 +141,7 @@ load_stopped users lines seed out given head text s (Some Store) made text-is is
     load_failed users lines seed out given is (rose refl) (subst (Writes out) (text-is ∙ ap (λ t. t ++ stopped_text) made.head-is) told) none later
 load_stopped users lines seed out given head text s (Some Memory) made text-is is told rose none later = load_unfinished users lines seed out given is told none later
 load_stopped users lines seed out given head text s None made text-is is told rose none later = load_unfinished users lines seed out given is told none later
+
+-- what holds of the one that is there
+pub held : {A : Type 0} (P : A → Type 0) (o : Option A) (a : A) → o ≡ Some a → IsSomeAnd o P → P a
+held {A} P o a is h = subst (λ (q : Option A). IsSomeAnd q P) is h

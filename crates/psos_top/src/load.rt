@@ -13,7 +13,6 @@ use crate::ending::no_run;
 use crate::loading::{print_run, print_stop};
 use crate::opening::boot_core;
 use crate::outcome::Outcome;
-use crate::turns::run_turns;
 use psos_calls::Script;
 use psos_core::Parts;
 use psos_io::{Sink, Store};
@@ -39,6 +38,22 @@ fn made_script(alloc: Global, users: u8, lines: u16, seed: u64) -> Result<Script
     }
 }
 
+// Runs a script from boot in turns that are drawn from the seed.
+fn run_script<B: Store>(
+    alloc: Global,
+    seed: u64,
+    script: Script,
+    store: B,
+) -> Result<(Script, Parts<B>), AllocError>
+    requires { IsWellFormed script }
+    ensures script { IfOk result (λ r. r.0 ≡ script) }
+    ensures left { IfOk result (λ r. IsLeftBy B.faults (B.faults store) (Command.Turns seed) r.0 r.1) }
+{
+    let mut core = boot_core(alloc, 32, script, store)?;
+    let _ = core.turns(alloc, seed);
+    Ok(core.into_parts())
+}
+
 // The first line, and the script and what its run leaves.
 fn serve<B: Store>(
     alloc: Global,
@@ -56,8 +71,7 @@ fn serve<B: Store>(
 {
     let head = load_head(alloc, users, lines, seed)?;
     let script = made_script(alloc, users, lines, seed)?;
-    let core = boot_core(alloc, 32, script, store)?;
-    let (script, parts) = run_turns(alloc, core, seed);
+    let (script, parts) = run_script(alloc, seed, script, store)?;
     Ok((head, script, parts))
 }
 

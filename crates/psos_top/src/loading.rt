@@ -7,7 +7,7 @@ ghost use Rattle.psos_model.specs.Text.Output.{calls_of};
 ghost use Rattle.psos_core.specs.System.{system_of};
 ghost use Rattle.psos_top.specs.declared.command.Command.{Command};
 ghost use Rattle.psos_top.specs.Orders.{IsRunBy};
-ghost use Rattle.psos_top.specs.Outcome.{stream, given_by, StoreIsLeft};
+ghost use Rattle.psos_top.specs.Outcome.{stream, given_by, stopped_text, StoreIsLeft};
 ghost use Rattle.psos_top.specs.Loading.{counts_text, IsMadeFrom, LoadEnds};
 
 use crate::ending::{give_back, stopped};
@@ -34,6 +34,15 @@ fn all_lines(
     let done = done_line(alloc, entries)?;
     text.extend_from_slice(&forms)?;
     text.extend_from_slice(&done)?;
+    Ok(text)
+}
+
+// The first line, and the line of a store that failed.
+fn stop_lines(head: Vec<u8>) -> Result<Vec<u8>, AllocError>
+    ensures { IfOk result (λ text. text.items ≡ head.items ++ stopped_text) }
+{
+    let mut text = head;
+    text.extend_from_slice(b"stopped store\n")?;
     Ok(text)
 }
 
@@ -83,9 +92,8 @@ pub(crate) fn print_stop<K: Sink, B: Store>(
     ensures store { (start : ℕ) → start ≤ B.faults store →
         StoreIsLeft B.faults start (stream K.took K.faults output.old output.new) result }
 {
-    let mut text = head;
-    if text.extend_from_slice(b"stopped store\n").is_err() {
+    let Ok(text) = stop_lines(head) else {
         return give_back(alloc, 6, store);
-    }
+    };
     stopped(alloc, cause, &text, store, output)
 }

@@ -1,8 +1,8 @@
 // The command `turns`.
-ghost use Rattle.std.specs.Prelude.{◌≡◌, ◌≤◌, IfOk};
+ghost use Rattle.std.specs.Prelude.{◌≤◌, IfOk};
 ghost use Rattle.psos_limits.specs.declared.TheConstants.{MOST_PAGE_FRAMES, LEAST_PAGE_FRAMES};
 ghost use Rattle.psos_top.specs.Outcome.{stream, given_by, Ends, StoreEnds};
-ghost use Rattle.psos_top.specs.Runs.{HasRead, IsAtBoot, IsLeftBy};
+ghost use Rattle.psos_top.specs.Runs.{HasRead, IsLeftBy};
 
 use crate::Command;
 use crate::ending::end;
@@ -10,20 +10,9 @@ use crate::open_fault::OpenFault;
 use crate::opening::open_core;
 use crate::outcome::Outcome;
 use psos_calls::Script;
-use psos_core::{Core, Parts};
+use psos_core::Parts;
 use psos_io::{Sink, Source, Store};
 use std::alloc::Global;
-
-/// Runs a script from boot, in turns that are drawn from the seed.
-pub(crate) fn run_turns<B: Store>(alloc: Global, core: Core<B>, seed: u64) -> (Script, Parts<B>)
-    requires { IsAtBoot core }
-    ensures script { result.0 ≡ core.script }
-    ensures left { IsLeftBy B.faults (B.faults core.levels.pages.store) (Command.Turns seed) result.0 result.1 }
-{
-    let mut core = core;
-    let _ = core.turns(alloc, seed);
-    core.into_parts()
-}
 
 // Reads the script and runs it.
 fn serve<I: Source, B: Store>(
@@ -38,8 +27,9 @@ fn serve<I: Source, B: Store>(
     ensures read { HasRead (λ r. r.0) (stream I.left I.faults input.old input.new) result }
     ensures left { IfOk result (λ r. IsLeftBy B.faults (B.faults store) (Command.Turns seed) r.0 r.1) }
 {
-    let core = open_core(alloc, frames, input, store)?;
-    Ok(run_turns(alloc, core, seed))
+    let mut core = open_core(alloc, frames, input, store)?;
+    let _ = core.turns(alloc, seed);
+    Ok(core.into_parts())
 }
 
 /// The command `turns`: reads a script, runs it in turns that are drawn from the seed, and prints the
