@@ -10,13 +10,13 @@ use Rattle.psos_top.specs.Outcome.{Stream, Given}
 use Rattle.psos_top.specs.Program.{EndsBy, EndsAsAsked, IsPrintedBy, PrintsAsAsked, StoreEndsBy, StoreEndsAsAsked}
 
 -- what is there is not missing
-not_none : {A : Type 0} (o : Option A) (a : A) → o ≡ Some a → o ≡ None → ⊥
+pub not_none : {A : Type 0} (o : Option A) (a : A) → o ≡ Some a → o ≡ None → ⊥
 not_none {A} o a is none =
     let P : Option A → Type 0 = λ q. IsSomeAnd q (λ b. Unit {0}) in
     subst P (sym is ∙ none) tt
 
 -- it is one only
-same : {A : Type 0} (o : Option A) (a b : A) → o ≡ Some a → o ≡ Some b → a ≡ b
+pub same : {A : Type 0} (o : Option A) (a b : A) → o ≡ Some a → o ≡ Some b → a ≡ b
 same {A} o a b is also =
     let P : Option A → Type 0 = λ q. IfSome q (λ c. a ≡ c) in
     subst P (sym is ∙ also) refl

@@ -5,3 +5,4 @@ pub mod ReadScripts
 pub mod OptionPairs
 pub mod LoadEndings
 pub mod AskedCommands
+pub mod RunsLeft

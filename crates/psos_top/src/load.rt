@@ -4,17 +4,17 @@ ghost use Rattle.psos_limits.specs.declared.TheConstants.{MOST_LINES};
 ghost use Rattle.psos_calls.specs.Language.Script.{IsWellFormed};
 ghost use Rattle.psos_model.specs.Text.Load.{load_text};
 ghost use Rattle.psos_model.specs.Text.Spelling.{IsScript};
-ghost use Rattle.psos_top.specs.declared.command.Command.{Command};
 ghost use Rattle.psos_top.specs.Outcome.{stream, given_by, StoreIsLeft};
-ghost use Rattle.psos_top.specs.Runs.{IsLeftBy};
+ghost use Rattle.psos_top.specs.Runs.{IsAtBoot, IsLeftBy};
 ghost use Rattle.psos_top.specs.Loading.{IsMadeFrom, LoadEnds};
 
+use crate::Command;
 use crate::ending::no_run;
 use crate::loading::{print_run, print_stop};
 use crate::opening::boot_core;
 use crate::outcome::Outcome;
 use psos_calls::Script;
-use psos_core::Parts;
+use psos_core::{Core, Parts};
 use psos_io::{Sink, Store};
 use psos_load::script_text;
 use psos_print::load_head;
@@ -38,18 +38,42 @@ fn made_script(alloc: Global, users: u8, lines: u16, seed: u64) -> Result<Script
     }
 }
 
-// Runs a script from boot in turns that are drawn from the seed.
-fn run_script<B: Store>(
+// A core of that script over the levels at boot, in which nothing was run.
+fn open_made<B: Store>(
     alloc: Global,
+    users: u8,
+    lines: u16,
     seed: u64,
-    script: Script,
+    store: B,
+) -> Result<Core<B>, AllocError>
+    requires some_users { 1 ≤ users }
+    requires few_users { users ≤ 8 }
+    requires some_lines { 1 ≤ lines }
+    requires few_lines { lines ≤ MOST_LINES }
+    ensures spelled { IfOk result (λ core. IsScript (load_text users lines seed) core.script) }
+    ensures boot { IfOk result (λ core. IsAtBoot core) }
+    ensures store { IfOk result (λ core. core.levels.pages.store ≡ store) }
+{
+    let script = made_script(alloc, users, lines, seed)?;
+    boot_core(alloc, 32, script, store)
+}
+
+// Makes the script and runs it.
+fn run_made<B: Store>(
+    alloc: Global,
+    users: u8,
+    lines: u16,
+    seed: u64,
     store: B,
 ) -> Result<(Script, Parts<B>), AllocError>
-    requires { IsWellFormed script }
-    ensures script { IfOk result (λ r. r.0 ≡ script) }
+    requires some_users { 1 ≤ users }
+    requires few_users { users ≤ 8 }
+    requires some_lines { 1 ≤ lines }
+    requires few_lines { lines ≤ MOST_LINES }
+    ensures spelled { IfOk result (λ r. IsScript (load_text users lines seed) r.0) }
     ensures left { IfOk result (λ r. IsLeftBy B.faults (B.faults store) (Command.Turns seed) r.0 r.1) }
 {
-    let mut core = boot_core(alloc, 32, script, store)?;
+    let mut core = open_made(alloc, users, lines, seed, store)?;
     let _ = core.turns(alloc, seed);
     Ok(core.into_parts())
 }
@@ -70,8 +94,7 @@ fn serve<B: Store>(
     ensures left { IfOk result (λ r. IsLeftBy B.faults (B.faults store) (Command.Turns seed) r.1 r.2) }
 {
     let head = load_head(alloc, users, lines, seed)?;
-    let script = made_script(alloc, users, lines, seed)?;
-    let (script, parts) = run_script(alloc, seed, script, store)?;
+    let (script, parts) = run_made(alloc, users, lines, seed, store)?;
     Ok((head, script, parts))
 }
 
