@@ -21,11 +21,7 @@ use std::alloc::{AllocError, Global};
 
 // The three lines, of which the first is given.
 #[tactic(auto, using(std::proofs::lemmas::List::append_assoc))]
-fn all_lines(
-    alloc: Global,
-    head: Vec<u8>,
-    entries: &Entries<Entry>,
-) -> Result<Vec<u8>, AllocError>
+fn all_lines(alloc: Global, head: Vec<u8>, entries: &Entries<Entry>) -> Result<Vec<u8>, AllocError>
     requires { calls_of entries.now < 2 ^ 64 }
     ensures { IfOk result (λ text. text.items ≡ head.items ++ counts_text entries.now) }
 {

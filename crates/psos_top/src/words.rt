@@ -159,7 +159,13 @@ fn with_lines(command: Command, given: Options, number: Option<u64>) -> Option<O
     ensures options { result ≡ option_map (λ n. record given { lines = Some n }) (first_number (takes_users command) 1 MOST_LINES given.lines number) }
     ensures range { IfSome result AreWithin }
 {
-    match first_number(takes_users(command), 1, MOST_LINES as u64, given.lines, number) {
+    match first_number(
+        takes_users(command),
+        1,
+        MOST_LINES as u64,
+        given.lines,
+        number,
+    ) {
         Some(n) => Some(Options {
             frames: given.frames,
             seed: given.seed,
