@@ -1,6 +1,6 @@
 -- A request that closes: its entry may go into the journal, and what its user knows then. States docs/levels.md, "Journal" and "Phases".
-use Rattle.std.proofs.Common.{◌≡◌, ℕ, zero, suc, ◌+◌, ◌^◌, ◌<◌, ◌≤◌, ◌==◌, ◌||◌, Bool, true, false, cond, List, [], ◌∷◌, ◌++◌, length, append_assoc, get_or, Option, Some, None, refl, sym, ap, ◌∙◌, ◌⊎◌, inl, inr, subst, arith, length-append}
-use Rattle.std.specs.Prelude.{slice_get, slice_index_or, IsTrue}
+use Rattle.std.proofs.Common.{◌≡◌, ℕ, zero, suc, ◌+◌, ◌^◌, ◌<◌, ◌≤◌, ◌==◌, Bool, true, false, cond, List, [], ◌∷◌, ◌++◌, length, append_assoc, get_or, Option, Some, None, refl, sym, ap, ◌∙◌, ◌⊎◌, inl, inr, subst, arith, length-append}
+use Rattle.std.specs.Prelude.{slice_get, slice_index_or}
 use Rattle.std.specs.Int.{bit_at}
 use Rattle.std.specs.Int.Bits.{bit_xor, xor_self}
 use Rattle.std.proofs.lemmas.Bool.{cases_eq, or_cases, or_right, eqb-true, eq-eqb, true≢false}
@@ -31,23 +31,22 @@ use Rattle.psos_laws.proofs.RequestsLeft.{left_within}
 use Rattle.psos_events.specs.Replays.{RunStands}
 use Rattle.psos_events.proofs.Replays.{runs_stand}
 use Rattle.psos_model.specs.Replay.{System, boot_system, replay_from}
-use Rattle.psos_model.specs.Events.Serial.{IsCoreStart, traced}
+use Rattle.psos_model.specs.Events.Serial.{traced}
 use Rattle.psos_journal.specs.Members.{named}
 use Rattle.psos_journal.specs.Views.{JournalState, Side, Known, list_of}
 use Rattle.psos_histories.specs.Names.{members_for}
 use Rattle.psos_histories.specs.Records.{replay_in, order_in}
-use Rattle.psos_histories.specs.Grips.{Grip, HaveMet, AreIn, AreFree}
+use Rattle.psos_histories.specs.Grips.{Grip, HaveMet}
 use Rattle.psos_histories.specs.Requests.{IsWorking}
-use Rattle.psos_histories.specs.Closes.{entry_for, bits_for, freed, AreNames, CanClose, IsClosed}
-use Rattle.psos_histories.specs.Phases.{IsPast, KnowsPast}
+use Rattle.psos_histories.specs.Closes.{entry_for, bits_for, AreNames, CanClose, IsClosed}
+use Rattle.psos_histories.specs.Phases.{IsPast}
 use Rattle.psos_histories.proofs.BitNames.{bits_are_names}
 use Rattle.psos_histories.proofs.Closes.{requests_close}
 use Rattle.psos_histories.proofs.OwnParts.{replay_rest}
 use Rattle.psos_histories.proofs.Phases.{past_stays, left_in_phase}
 use Rattle.psos_histories.proofs.RecordLimits.{records_are_few, records_have_users}
 use Rattle.psos_locks.specs.Grips.{grips_in}
-use Rattle.psos_locks.specs.Places.{left_by, MaySettle}
-use Rattle.psos_locks.specs.Runs.{IsRun, IsOwn, Knows, InWork, CanPut}
+use Rattle.psos_locks.specs.Runs.{IsRun, Knows, CanPut}
 use Rattle.psos_locks.specs.Users.{OwnView, past_of, past_in, has_more, IsUser, IsAtWork, HasClosed}
 use Rattle.psos_locks.proofs.Settling.{left_all, all_ready}
 use Rattle.psos_locks.proofs.Working.{start, again}

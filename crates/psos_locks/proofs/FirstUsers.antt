@@ -1,6 +1,6 @@
 -- Levels at boot behind their locks, and the users before the first entry.
-use Rattle.std.proofs.Common.{◌≡◌, ℕ, ◌+◌, ◌≤◌, ◌<◌, false, List, [], ◌∷◌, ◌++◌, length, append-nil, Option, Some, None, refl, sym, ap, ◌∙◌, subst, inl, inr, arith}
-use Rattle.std.specs.Prelude.{slice_get, replicate, IfSome}
+use Rattle.std.proofs.Common.{◌≡◌, ℕ, ◌≤◌, ◌<◌, false, List, [], ◌∷◌, ◌++◌, length, append-nil, Option, Some, None, refl, sym, ap, ◌∙◌, subst, arith}
+use Rattle.std.specs.Prelude.{slice_get, IfSome}
 use Rattle.std.specs.Option.{option_to_list}
 use Rattle.std.proofs.lemmas.Bool.{lt-ltb}
 use Rattle.std.proofs.lemmas.List.{length_push}
@@ -19,10 +19,10 @@ use Rattle.psos_procs.proofs.Parts.{box_at, boxes-at, boxes-size}
 use Rattle.psos_laws.proofs.BootSoundUsers.{users_count}
 use Rattle.psos_core.proofs.BootTables.{boxes_none}
 use Rattle.psos_histories.specs.Names.{member_of}
-use Rattle.psos_histories.specs.Grips.{IsFreeGrip, new_grip}
+use Rattle.psos_histories.specs.Grips.{IsFreeGrip}
 use Rattle.psos_histories.specs.Pieces.{Piece, Box, piece_at}
 use Rattle.psos_histories.proofs.LockHistories.{histories_begin}
-use Rattle.psos_locks.specs.Opening.{AreInOrder, IsAtBoot, IsBootBox, AreBootBoxes, AreFirstParts, AreNewWith}
+use Rattle.psos_locks.specs.Opening.{IsAtBoot, IsBootBox, AreBootBoxes, AreNewWith}
 use Rattle.psos_locks.specs.Runs.{IsOwn}
 use Rattle.psos_locks.specs.Users.{OwnView, UserView, new_user, IsUser, AreNewUsers}
 use Rattle.psos_locks.proofs.ListPlaces.{front_get, last_get, each_front, each_last, each_more}

@@ -1,10 +1,9 @@
 -- What a run of threads leaves is what its entries' replay has.
-use Rattle.std.proofs.Common.{◌≡◌, ℕ, zero, suc, ◌+◌, ◌<◌, ◌≤◌, Bool, true, false, List, [], ◌∷◌, ◌++◌, length, map, Option, Some, None, refl, sym, ap, ◌∙◌, subst, inl, inr, arith}
-use Rattle.std.specs.Prelude.{slice_get, option_map, IsTrue, IfSome}
+use Rattle.std.proofs.Common.{◌≡◌, ℕ, suc, ◌+◌, ◌<◌, true, false, List, [], ◌∷◌, ◌++◌, length, map, Option, Some, None, refl, sym, ap, ◌∙◌, subst, arith}
+use Rattle.std.specs.Prelude.{slice_get, IfSome}
 use Rattle.std.proofs.lemmas.Bool.{eqb-true, ltb-true}
 use Rattle.std.proofs.lemmas.List.{length_push}
 use Rattle.std.proofs.lemmas.Option.{none-some}
-use Rattle.psos_io.specs.Causes.{Rose}
 use Rattle.psos_table.specs.Table.{at}
 use Rattle.psos_words.specs.declared.word.Word.{Word}
 use Rattle.psos_calls.specs.declared.entry.Entry.{Entry}
@@ -20,9 +19,9 @@ use Rattle.psos_calls.specs.Locks.Held.{is_lock}
 use Rattle.psos_model.specs.Flat.Boot.{boot}
 use Rattle.psos_model.specs.Replay.{System, boot_system}
 use Rattle.psos_journal.specs.declared.stop_cause.StopCause.{StopCause}
-use Rattle.psos_journal.specs.declared.stop_cause.StopCause.TheVariants.{Store, Memory}
+use Rattle.psos_journal.specs.declared.stop_cause.StopCause.TheVariants.{Store}
 use Rattle.psos_journal.specs.Members.{entries_of, named}
-use Rattle.psos_journal.specs.Views.{JournalState, Side, list_of}
+use Rattle.psos_journal.specs.Views.{JournalState, list_of}
 use Rattle.psos_events.proofs.MailboxRows.{box_of_process}
 use Rattle.psos_procs.specs.Mailbox.{Mailbox, process_of}
 use Rattle.psos_procs.specs.Mailboxes.{boxes_of, AreBoxesFrom, AreMailboxes}
@@ -42,7 +41,7 @@ use Rattle.psos_core.specs.System.{system_of}
 use Rattle.psos_core.specs.Parts.{levels_of_stop, store_of_stop}
 use Rattle.psos_locks.specs.Ends.{HasEnded, IsGiven}
 use Rattle.psos_locks.specs.Grips.{level_lock}
-use Rattle.psos_locks.specs.Runs.{IsRun, IsOwn}
+use Rattle.psos_locks.specs.Runs.{IsRun}
 use Rattle.psos_locks.specs.Users.{UserView, AreUsers}
 use Rattle.psos_locks.proofs.ListPlaces.{each_more, same_places, there_is, mapped_is, mapped_there}
 use Rattle.psos_locks.proofs.Working.{start}

@@ -1,5 +1,5 @@
 -- The place of a level among those of all levels. States docs/levels.md, "Locks".
-use Rattle.std.proofs.Common.{◌≡◌, ℕ, ◌<◌, ◌==◌, ◌&&◌, ◌||◌, Bool, true, false, cond, ltb, List, [], ◌∷◌, ◌++◌, Option, Some, None, refl, sym, ap, ◌∙◌, subst}
+use Rattle.std.proofs.Common.{◌≡◌, ℕ, ◌<◌, ◌==◌, ◌||◌, Bool, true, false, cond, ltb, List, [], ◌∷◌, ◌++◌, Option, Some, None, refl, sym, ap, ◌∙◌, subst}
 use Rattle.std.specs.Prelude.{is_some, option_map, IfSome, OnOk, IfErr, Result, Ok, Err}
 use Rattle.std.proofs.lemmas.Bool.{true≢false, eqb-true, eq-eqb}
 use Rattle.psos_calls.specs.declared.level.Level.{Level}
@@ -17,7 +17,7 @@ use Rattle.psos_histories.specs.Pieces.{act_piece}
 use Rattle.psos_histories.specs.Grips.{Grip, locks_of}
 use Rattle.psos_histories.specs.Requests.{called_one, called, answer_in, step_in, CanIn}
 use Rattle.psos_locks.specs.declared.hands.Hands.{Hands}
-use Rattle.psos_locks.specs.Grips.{grips_in, slots_of, level_lock, next_grip, page_grip, seg_grip, type_grip, dir_grip, life_grip, box_grip, code_grip}
+use Rattle.psos_locks.specs.Grips.{grips_in, level_lock, next_grip, page_grip, seg_grip, type_grip, dir_grip, life_grip, box_grip, code_grip}
 use Rattle.psos_locks.specs.Places.{holds_in, step_of, CanMake, IsSomeThat}
 use Rattle.psos_locks.proofs.Gripped.{IsOther, AreOther, none_other, called_there, answered_there, can_there}
 

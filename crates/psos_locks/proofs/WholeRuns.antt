@@ -1,5 +1,5 @@
 -- A run of threads at its end is a run from boot, whole where it was not stopped. States docs/levels.md, "Phases", and docs/promises.md, "Replays".
-use Rattle.std.proofs.Common.{◌≡◌, ℕ, false, List, length, Option, Some, None, refl, sym, ap, ◌∙◌, inl, inr, subst, arith}
+use Rattle.std.proofs.Common.{◌≡◌, ℕ, false, List, Option, Some, None, refl, sym, ap, ◌∙◌, inl, inr, subst, arith}
 use Rattle.std.specs.Prelude.{slice_get, IfSome}
 use Rattle.std.proofs.lemmas.Option.{same_Some, none-some, slice_get_cases}
 use Rattle.psos_calls.specs.Language.Script.{Script, IsWellFormed}

@@ -1,8 +1,7 @@
 -- A request at work, as its thread knows it. States docs/levels.md, "Locks" and "Journal".
-use Rattle.std.proofs.Common.{◌≡◌, ℕ, ◌+◌, ◌<◌, ◌≤◌, ◌||◌, Bool, true, false, List, [], ◌∷◌, ◌++◌, length, append-nil, Option, Some, None, refl, ap, sym, ◌∙◌, subst, arith}
+use Rattle.std.proofs.Common.{◌≡◌, ℕ, ◌<◌, ◌≤◌, Bool, true, false, List, [], ◌∷◌, ◌++◌, length, append-nil, Some, refl, ap, sym, ◌∙◌, subst, arith}
 use Rattle.std.specs.Prelude.{slice_get, IsTrue}
 use Rattle.std.proofs.lemmas.Bool.{or_left, true≢false}
-use mathlib.Core.List.{IsPrefix}
 use Rattle.psos_calls.specs.declared.entry.Entry.{Entry}
 use Rattle.psos_calls.specs.declared.lock_id.LockId.{LockId}
 use Rattle.psos_calls.specs.declared.level.Level.{Level}
@@ -20,7 +19,6 @@ use Rattle.psos_calls.specs.Language.Script.{Script, IsWellFormed}
 use Rattle.psos_calls.specs.Language.User.{User, next_request}
 use Rattle.psos_calls.specs.Levels.{Levels, level_of}
 use Rattle.psos_calls.specs.Levels.Calls.{LevelCall}
-use Rattle.psos_calls.specs.Levels.Answers.{LevelAnswer}
 use Rattle.psos_calls.specs.Levels.Lists.{HasLists}
 use Rattle.psos_calls.specs.Locks.{lock_of}
 use Rattle.psos_calls.specs.Locks.Held.{same_lock, is_held, are_earlier}
@@ -28,10 +26,10 @@ use Rattle.psos_calls.specs.Plan.{Plan, Ask, Close}
 use Rattle.psos_calls.specs.Plan.Requests.{plan_of}
 use Rattle.psos_calls.specs.Plan.Trace.{followed, next_of, IsTraceOf}
 use Rattle.psos_model.specs.Flat.Boot.{boot}
-use Rattle.psos_model.specs.Replay.{System, boot_system}
+use Rattle.psos_model.specs.Replay.{boot_system}
 use Rattle.psos_model.specs.Events.Serial.{IsCoreStart}
 use Rattle.psos_agree.proofs.LocksTaken.{same_lock_refl}
-use Rattle.psos_journal.specs.Views.{Side, list_of}
+use Rattle.psos_journal.specs.Views.{Side}
 use Rattle.psos_events.proofs.EventConditions.{boot_is_core_start}
 use Rattle.psos_histories.specs.Records.{replay_in}
 use Rattle.psos_histories.specs.Grips.{Grip, locks_of, HaveMet}

@@ -1,11 +1,11 @@
 -- How a run of threads begins and ends. States docs/levels.md, "Locks", "Journal" and "Levels".
-use Rattle.std.specs.Prelude.{◌≡◌, ℕ, ◌≤◌, true, false, List, length, slice_get, Option, None, Some, IfSome, IsSome}
+use Rattle.std.specs.Prelude.{◌≡◌, ℕ, ◌≤◌, true, false, List, length, slice_get, Option, None, Some, IfSome}
 use Rattle.psos_io.specs.Causes.{Rose}
 use Rattle.psos_limits.specs.declared.TheConstants.{MOST_REQUESTS}
 use Rattle.psos_calls.specs.declared.entry.Entry.{Entry}
 use Rattle.psos_calls.specs.Language.Script.{Script, IsWellFormed}
 use Rattle.psos_model.specs.Flat.Boot.{boot}
-use Rattle.psos_model.specs.Replay.{System, boot_system}
+use Rattle.psos_model.specs.Replay.{boot_system}
 use Rattle.psos_journal.specs.declared.stop_cause.StopCause.{StopCause}
 use Rattle.psos_journal.specs.declared.stop_cause.StopCause.TheVariants.{Store}
 use Rattle.logbook.specs.Pages.{Book}

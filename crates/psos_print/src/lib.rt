@@ -3,6 +3,8 @@
 
 mod done;
 mod fault;
+mod forms;
+mod head;
 mod lengths;
 mod line;
 mod name;
@@ -14,6 +16,8 @@ mod transcript;
 
 pub use done::done_line;
 pub use fault::PrintFault;
+pub use forms::forms_line;
+pub use head::load_head;
 pub use lengths::line_len;
 pub use line::put_line;
 pub use transcript::put_transcript;

@@ -4,3 +4,6 @@ pub mod CommandEnds
 pub mod ReadScripts
 pub mod ThreadRuns
 pub mod OptionPairs
+pub mod LoadEndings
+pub mod AskedCommands
+pub mod RunsLeft

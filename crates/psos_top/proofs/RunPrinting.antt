@@ -150,7 +150,7 @@ ends_failed command out given s is rose text none later = record {
 }
 
 -- a run that was stopped
-pub ends_stopped : (command : Command) (out : Stream) (given : Given) (s : Script) (stop : Option StopCause) → given.status ≡ status_of_stop stop → TellsStop out stop
+pub ends_stopped : (command : Command) (out : Stream) (given : Given) (s : Script) (stop : Option StopCause) → given.status ≡ status_of_stop stop → TellsStop out stopped_text stop
     → (stop ≡ Some Store → Rose given.store_before given.store_now) → IsNoRun given.entries given.left → out.faults_before ≤ out.faults_now → RunEnds command out given s
 ends_stopped command out given s (Some Store) is told rose none later = ends_failed command out given s is (rose refl) told none later
 ends_stopped command out given s (Some Memory) is told rose none later = ends_unfinished command out given s is (inl told) none later

@@ -1,5 +1,5 @@
 -- What a command read, and what its run left. States docs/program.md, "Commands" and "Statuses".
-use Rattle.std.specs.Prelude.{◌≡◌, ℕ, ◌≤◌, [], Option, Some, None, Result, Ok, Err, IfOk, IfErr, IfSome, IsSomeAnd}
+use Rattle.std.specs.Prelude.{◌≡◌, ℕ, ◌≤◌, List, [], Option, Some, None, Result, Ok, Err, IfOk, IfErr, IfSome, IsSomeAnd}
 use Rattle.std.specs.Io.KnownBytes.{Keeps}
 use Rattle.psos_io.specs.Causes.{Rose}
 use Rattle.psos_calls.specs.Language.Script.{Script, IsWellFormed}
@@ -18,7 +18,7 @@ use Rattle.psos_top.specs.declared.command.Command.{Command}
 use Rattle.psos_top.specs.declared.open_fault.OpenFault.{OpenFault}
 use Rattle.psos_top.specs.declared.open_fault.OpenFault.TheVariants as faults
 use Rattle.psos_top.specs.Orders.{IsRunBy}
-use Rattle.psos_top.specs.Outcome.{Stream, WasRead, IsFaulty, Writes, stopped_text}
+use Rattle.psos_top.specs.Outcome.{Stream, WasRead, IsFaulty, Writes}
 
 -- ---- what was read
 
@@ -66,8 +66,8 @@ status_of_stop (Some Store) = 5
 status_of_stop (Some Memory) = 6
 status_of_stop None = 6
 
--- what is written then: the line of a store that failed, or nothing
-abbrev pub TellsStop : Stream → Option StopCause → Type 0
-TellsStop out (Some Store) = Writes out stopped_text
-TellsStop out (Some Memory) = Keeps out.before out.now
-TellsStop out None = Keeps out.before out.now
+-- what is written then: this text where a store failed, or nothing
+abbrev pub TellsStop : Stream → List ℕ → Option StopCause → Type 0
+TellsStop out text (Some Store) = Writes out text
+TellsStop out text (Some Memory) = Keeps out.before out.now
+TellsStop out text None = Keeps out.before out.now

@@ -94,16 +94,17 @@ fn refuse<K: Sink, B: Store>(
     stop(alloc, output, 2, &fault_line(fault), store_faults)
 }
 
-// A run that was stopped: where the store failed the line of it, and else nothing. The store is handed back.
-fn stopped<K: Sink, B: Store>(
+/// A run that was stopped: where the store failed this text, and else nothing. The store is handed back.
+pub(crate) fn stopped<K: Sink, B: Store>(
     alloc: Global,
     cause: Option<StopCause>,
+    text: &[u8],
     store: B,
     output: &mut K,
 ) -> Outcome<B>
     ensures status { result.status ≡ status_of_stop cause }
     ensures none { IsNoRun result.entries result.levels }
-    ensures told { TellsStop (stream K.took K.faults output.old output.new) cause }
+    ensures told { TellsStop (stream K.took K.faults output.old output.new) text.now cause }
     ensures later { K.faults output.old ≤ K.faults output.new }
     ensures levels { result.levels ≡ None }
     ensures store { result.store ≡ Some store }
@@ -111,7 +112,7 @@ fn stopped<K: Sink, B: Store>(
 {
     match cause {
         Some(StopCause::Store) => {
-            let _ = put_all(output, b"stopped store\n");
+            let _ = put_all(output, text);
             give_back(alloc, 5, store)
         }
         Some(StopCause::Memory) => give_back(alloc, 6, store),
@@ -197,7 +198,7 @@ fn close<K: Sink, B: Store>(
     match levels {
         Some(levels) => finish(alloc, script, entries, levels, output),
         None => match store {
-            Some(store) => stopped(alloc, cause, store, output),
+            Some(store) => stopped(alloc, cause, b"stopped store\n", store, output),
             None => unreachable!(),
         },
     }

@@ -5,6 +5,8 @@ mod arguments;
 mod command;
 mod ending;
 mod fault_line;
+mod load;
+mod loading;
 mod open_fault;
 mod opening;
 mod outcome;
@@ -15,6 +17,7 @@ mod turns;
 mod words;
 
 pub use command::Command;
+pub use load::load_call;
 pub use outcome::Outcome;
 pub use program::{psos_main, psos_program};
 pub use run::run_call;

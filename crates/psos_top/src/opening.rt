@@ -12,7 +12,7 @@ use psos_calls::Script;
 use psos_core::{Core, Levels};
 use psos_io::{InputFault, Source, Store, read_all};
 use psos_script::{ReadFault, read_script};
-use std::alloc::Global;
+use std::alloc::{AllocError, Global};
 
 // What the reader answers, or why there is none.
 fn found(read: Result<Script, ReadFault>) -> Result<Script, OpenFault>
@@ -37,29 +37,27 @@ pub(crate) fn read_input<I: Source>(alloc: Global, input: &mut I) -> Result<Scri
     found(read_script(alloc, &bytes))
 }
 
-/// The script of an input, and the levels at boot over this store. Where there are none, the store is gone, and no call
-/// of it was made.
-pub(crate) fn open<I: Source, B: Store>(
+/// A core of a script over the levels at boot, in which nothing was run. `Err` only where memory runs out: the store is
+/// gone then, and no call of it was made.
+pub(crate) fn boot_core<B: Store>(
     alloc: Global,
     frames: u16,
-    input: &mut I,
+    script: Script,
     store: B,
-) -> Result<(Script, Levels<B>), OpenFault>
+) -> Result<Core<B>, AllocError>
+    requires well_formed { IsWellFormed script }
     requires least { LEAST_PAGE_FRAMES ≤ frames }
     requires most { frames ≤ MOST_PAGE_FRAMES }
-    ensures read { HasRead (λ o. o.0) (stream I.left I.faults input.old input.new) result }
-    ensures well_formed { IfOk result (λ o. IsWellFormed o.0) }
-    ensures booted { IfOk result (λ o. system_of o.1 ≡ boot_system o.0) }
-    ensures store { IfOk result (λ o. o.1.pages.store ≡ store) }
+    ensures boot { IfOk result (λ core. IsAtBoot core) }
+    ensures script { IfOk result (λ core. core.script ≡ script) }
+    ensures store { IfOk result (λ core. core.levels.pages.store ≡ store) }
 {
-    let script = read_input(alloc, input)?;
-    let Ok(levels) = Levels::boot(alloc, &script, frames, store) else {
-        return Err(OpenFault::Memory);
-    };
-    Ok((script, levels))
+    let levels = Levels::boot(alloc, &script, frames, store)?;
+    let core = Core::new(alloc, script, levels)?;
+    Ok(core)
 }
 
-/// A core over them, in which nothing was run.
+/// The same of the script of an input.
 pub(crate) fn open_core<I: Source, B: Store>(
     alloc: Global,
     frames: u16,
@@ -72,8 +70,8 @@ pub(crate) fn open_core<I: Source, B: Store>(
     ensures boot { IfOk result (λ core. IsAtBoot core) }
     ensures store { IfOk result (λ core. core.levels.pages.store ≡ store) }
 {
-    let (script, levels) = open(alloc, frames, input, store)?;
-    let Ok(core) = Core::new(alloc, script, levels) else {
+    let script = read_input(alloc, input)?;
+    let Ok(core) = boot_core(alloc, frames, script, store) else {
         return Err(OpenFault::Memory);
     };
     Ok(core)

@@ -3,12 +3,13 @@ ghost use Rattle.std.specs.Prelude.{◌≡◌, ◌≢◌, ◌↔◌, None, IfErr
 ghost use Rattle.std.specs.IoError.{error_kind};
 ghost use Rattle.std.specs.Process.{exit_status};
 ghost use Rattle.psos_top.specs.Words.{words_in, words_asked};
-ghost use Rattle.psos_top.specs.Outcome.{stream, given_by, usage_text, Wrote, StoreEnds};
-ghost use Rattle.psos_top.specs.Program.{PrintsAsAsked, EndsAsAsked, ProgramEnds};
+ghost use Rattle.psos_top.specs.Outcome.{stream, given_by, usage_text, Wrote};
+ghost use Rattle.psos_top.specs.Program.{PrintsAsAsked, EndsAsAsked, StoreEndsAsAsked, ProgramEnds};
 
 use crate::Command;
 use crate::arguments::words_of;
 use crate::ending::stop;
+use crate::load::load_call;
 use crate::outcome::Outcome;
 use crate::run::run_call;
 use crate::serial::serial_call;
@@ -50,7 +51,7 @@ pub fn psos_main<R: Threads + Wait + Sync, I: Source, K: Sink, B: Store + Send, 
         (stream I.left I.faults input.old input.new) (stream K.took K.faults output.old output.new) (given_by (B.faults store) result) }
 
     // The store is in the levels, or handed back, or as it was until it was gone.
-    ensures store { StoreEnds B.faults (B.faults store)
+    ensures store { StoreEndsAsAsked (map string_bytes words.now) B.faults (B.faults store)
         (stream I.left I.faults input.old input.new) (stream K.took K.faults output.old output.new) result }
 {
     let Some(asked) = read_words(words) else {
@@ -66,6 +67,7 @@ pub fn psos_main<R: Threads + Wait + Sync, I: Source, K: Sink, B: Store + Send, 
         Command::Serial => serial_call(alloc, asked.frames, input, output, store),
         Command::Turns(seed) => turns_call(alloc, asked.frames, seed, input, output, store),
         Command::Run => run_call(rt, alloc, asked.frames, input, output, store, gate),
+        Command::Load { users, lines, seed } => load_call(alloc, users, lines, seed, output, store),
     }
 }
 

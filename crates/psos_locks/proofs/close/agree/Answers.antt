@@ -1,4 +1,3 @@
-use Rattle.std.proofs.Common.{◌≡◌}
 use Rattle.psos_locks.proofs.Closing.{agreed_none, agreed_next, agreed_all, found_there}
 use Rattle.psos_locks.proofs.close.agree.Goals as goal
 

@@ -1,5 +1,4 @@
-use Rattle.std.proofs.Common.{◌≡◌, ◌∙◌, ◌++◌, ◌∷◌, [], List, length, Option, refl, Bool, true, sym, ap, subst, ℕ, arith}
-use Rattle.std.specs.Prelude.{Some}
+use Rattle.std.proofs.Common.{◌≡◌, ◌∙◌, ◌++◌, ◌∷◌, [], List, length, Option, refl, true, sym, ap, subst, ℕ, arith}
 use mathlib.Core.List.{IsPrefix}
 use Rattle.psos_calls.specs.declared.entry.Entry.{Entry}
 use Rattle.psos_calls.specs.Language.Script.{Script}
@@ -11,7 +10,6 @@ use Rattle.psos_histories.specs.Closes.{entry_for, bits_for}
 use Rattle.psos_histories.specs.Grips.{HaveMet}
 use Rattle.psos_journal.specs.Views.{JournalState, Known, Side}
 use Rattle.psos_locks.specs.Grips.{grips_of, slots_of}
-use Rattle.psos_locks.specs.Runs.{CanPut}
 use Rattle.psos_locks.specs.Users.{OwnView, past_in, has_more, IsAtWork, IsUser}
 use Rattle.psos_locks.proofs.Closing.{Found, may_close, put_same, entry_same, closed_so}
 use Rattle.psos_locks.proofs.close.close.Goals as goal

@@ -1,6 +1,5 @@
-use Rattle.std.proofs.Common.{◌≡◌, ℕ, ◌+◌, List, [], ◌∷◌, ◌++◌, ap, ◌∙◌, sym, subst, arith, vec_len}
+use Rattle.std.proofs.Common.{◌≡◌, ℕ, ◌+◌, List, sym, subst, arith, vec_len}
 use Rattle.psos_calls.specs.declared.entry.Entry.{Entry}
-use Rattle.psos_procs.specs.Mailbox.{Mailbox}
 use Rattle.psos_locks.specs.Ending.{AreBoxesLeft}
 use Rattle.psos_locks.proofs.LeftLevels.{not_before, one_more_box, same_entries}
 use Rattle.psos_locks.proofs.ending.+end_boxes.Goals as goal

@@ -1,4 +1,4 @@
-use Rattle.std.proofs.Common.{◌≡◌, ℕ, ◌∙◌, sym, subst, arith, vec_len, length}
+use Rattle.std.proofs.Common.{◌≡◌, ◌∙◌, sym, subst, arith, vec_len, length}
 use Rattle.psos_locks.specs.Ending.{IsProcsLeft}
 use Rattle.psos_locks.proofs.ListPlaces.{not_some}
 use Rattle.psos_locks.proofs.LeftLevels.{are_mailboxes, procs_left}

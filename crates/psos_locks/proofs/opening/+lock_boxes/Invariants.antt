@@ -1,4 +1,3 @@
-use Rattle.std.proofs.Common.{length}
 use Rattle.std.specs.Prelude.{vec_len}
 use Rattle.psos_locks.proofs.opening.+lock_boxes.Given as goal
 

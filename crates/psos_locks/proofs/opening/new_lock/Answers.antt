@@ -1,4 +1,4 @@
-use Rattle.std.proofs.Common.{◌≡◌, ℕ, ◌+◌, length, sym, ap, ◌∙◌, arith}
+use Rattle.std.proofs.Common.{◌≡◌, ℕ, length, ap, ◌∙◌, arith}
 use Rattle.psos_calls.specs.declared.entry.Entry.{Entry}
 use Rattle.psos_journal.specs.Views.{Side, new_side}
 use Rattle.psos_histories.specs.Names.{member_of}

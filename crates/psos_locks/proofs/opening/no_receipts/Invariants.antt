@@ -1,4 +1,4 @@
-use Rattle.std.proofs.Common.{◌≡◌, None, Option}
+use Rattle.std.proofs.Common.{◌≡◌, None}
 use Rattle.std.specs.Prelude.{replicate, vec_len, vec_capacity}
 use Rattle.psos_locks.proofs.opening.no_receipts.Given as goal
 

@@ -1,9 +1,7 @@
-use Rattle.std.proofs.Common.{◌≡◌, ℕ, ◌^◌, sym, ap, ◌∙◌, arith, Option, Bool}
+use Rattle.std.proofs.Common.{ℕ, ◌^◌, sym, ap, ◌∙◌, arith}
 use Rattle.std.specs.Prelude.{option_map}
 use Rattle.std.specs.Int.Bits.{bit_xor}
-use Rattle.psos_calls.specs.declared.entry.Entry.{Entry}
 use Rattle.psos_journal.proofs.JournalInvariant.{bit_shifted}
-use Rattle.psos_journal.specs.Views.{Side}
 use Rattle.psos_locks.specs.Grips.{grip_by}
 use Rattle.psos_locks.specs.Places.{named_by}
 use Rattle.psos_locks.proofs.places.name_one.Goals as goal

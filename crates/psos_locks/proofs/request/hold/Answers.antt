@@ -1,4 +1,4 @@
-use Rattle.std.proofs.Common.{◌≡◌, List, sym, ap, ◌∙◌, subst}
+use Rattle.std.proofs.Common.{List, sym, ap, ◌∙◌, subst}
 use Rattle.psos_calls.specs.Locks.{lock_of}
 use Rattle.psos_journal.specs.Views.{Side}
 use Rattle.psos_calls.specs.declared.entry.Entry.{Entry}

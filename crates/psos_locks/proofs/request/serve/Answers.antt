@@ -1,4 +1,3 @@
-use Rattle.std.proofs.Common.{◌≡◌}
 use Rattle.psos_locks.specs.Grips.{grips_of}
 use Rattle.psos_locks.proofs.Working.{begins}
 use Rattle.psos_locks.proofs.request.serve.Goals as goal

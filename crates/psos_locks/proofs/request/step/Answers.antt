@@ -1,4 +1,4 @@
-use Rattle.std.proofs.Common.{◌≡◌, sym, ◌∙◌, subst}
+use Rattle.std.proofs.Common.{sym, ◌∙◌, subst}
 use Rattle.psos_calls.specs.Plan.Requests.{plan_of}
 use Rattle.psos_calls.specs.Plan.Trace.{followed}
 use Rattle.psos_model.proofs.RequestRanges.{in_range}

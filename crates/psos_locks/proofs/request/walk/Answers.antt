@@ -1,5 +1,4 @@
-use Rattle.std.proofs.Common.{◌≡◌, ◌≤◌, ◌+◌, length, None, Option, List, ap, ◌∙◌, subst, arith}
-use Rattle.psos_calls.specs.declared.step.Step.{Step}
+use Rattle.std.proofs.Common.{◌≡◌, ◌≤◌, ◌+◌, length, Option, ap, ◌∙◌, subst, arith}
 use Rattle.psos_calls.specs.Language.User.{next_request}
 use Rattle.psos_calls.specs.Plan.Requests.{plan_of}
 use Rattle.psos_core.specs.declared.perform.Closing.{Closing}

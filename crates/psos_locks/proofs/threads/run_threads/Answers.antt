@@ -1,4 +1,4 @@
-use Rattle.std.proofs.Common.{refl, ℕ, ◌+◌, length, ap, ◌∙◌}
+use Rattle.std.proofs.Common.{refl, ◌+◌, length, ap, ◌∙◌}
 use Rattle.psos_locks.proofs.threads.run_threads.Goals as goal
 
 pub run_on-requires-clause-script : goal.run_on-requires-clause-script

@@ -1,4 +1,4 @@
-use Rattle.std.proofs.Common.{◌≡◌, ◌<◌, sym, ◌∙◌, refl, arith}
+use Rattle.std.proofs.Common.{◌<◌, sym, ◌∙◌, refl, arith}
 use Rattle.psos_calls.specs.declared.level.Level.TheVariants.{L13, L12, L11, L10, L9, L8, L7, L0}
 use Rattle.psos_calls.specs.Locks.{lock_of}
 use Rattle.psos_locks.specs.Grips.{next_grip, page_grip, seg_grip, type_grip, dir_grip, life_grip, code_grip}

@@ -1,4 +1,4 @@
-use Rattle.std.proofs.Common.{◌≡◌, ℕ, ◌^◌, ◌*◌, ◌%◌}
+use Rattle.std.proofs.Common.{◌^◌, ◌*◌, ◌%◌}
 use Rattle.psos_calls.specs.declared.level.Level.TheVariants.{L13, L12, L11, L10, L9, L8, L7, L0}
 use Rattle.psos_journal.proofs.JournalInvariant.{bit_shifted}
 use Rattle.psos_locks.proofs.PlaceOfLevel.{at_level, behind}

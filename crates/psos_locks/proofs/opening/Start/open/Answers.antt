@@ -1,7 +1,5 @@
-use Rattle.std.proofs.Common.{◌≡◌, ℕ, List, length, sym, ap, ◌∙◌, arith}
+use Rattle.std.proofs.Common.{◌≡◌, length, ap, ◌∙◌, arith}
 use Rattle.psos_table.specs.Table.{size}
-use Rattle.psos_calls.specs.Language.User.{User}
-use Rattle.psos_model.specs.Replay.{boot_system}
 use Rattle.psos_laws.proofs.BootSoundUsers.{users_count}
 use Rattle.psos_locks.proofs.FirstUsers.{boxes_at_boot, boxes_count, all_new}
 use Rattle.psos_locks.proofs.opening.Start.open.Goals as goal

@@ -5,21 +5,19 @@ use Rattle.psos_model.specs.Replay.{System, boot_system}
 use Rattle.psos_core.specs.System.{system_of}
 use Rattle.psos_core.proofs.RunsFromBoot.{boot_starts}
 use Rattle.psos_core.specs.Events.{IsAfter}
-use Rattle.psos_top.proofs.opening.open_core.Goals as goal
+use Rattle.psos_top.proofs.opening.boot_core.Goals as goal
 
 pub new-requires : goal.new-requires
-new-requires g c =
-    let is = c.in_ok-script.ensures in
-    (boot c.in_ok-script.script, boot_starts c.in_ok-script.script (system_of c.in_ok-script.levels) is.well_formed is.booted)
+new-requires g c = (boot c.args.script, boot_starts c.args.script (system_of c.in_ok-levels.levels) c.requires.well_formed c.in_ok-levels.ensures.booted)
 
 pub returns-clause-boot : goal.returns-clause-boot
 returns-clause-boot g c =
-    let core = c.in-Ok.core in
-    let is = c.in-Ok.ensures in
-    let script = c.in_ok-script.script in
-    let levels = c.in_ok-script.levels in
-    let formed = c.in_ok-script.ensures.well_formed in
-    let booted = c.in_ok-script.ensures.booted in
+    let core = c.in_ok-core.core in
+    let is = c.in_ok-core.ensures in
+    let script = c.args.script in
+    let levels = c.in_ok-levels.levels in
+    let formed = c.requires.well_formed in
+    let booted = c.in_ok-levels.ensures.booted in
     let P : Script → System → Type 0 = λ s y. IsAfter core (record { system = y; flat = boot s }) [] in
     let led : P script (system_of levels) = is.events (boot script) (boot_starts script (system_of levels) formed booted) in
     let same : system_of core.levels ≡ system_of levels = ap (λ l. system_of l) is.levels in
