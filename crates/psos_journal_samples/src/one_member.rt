@@ -1,8 +1,7 @@
 // A journal of one member.
-ghost use Rattle.std.specs.Prelude.{◌≡◌, [], None};
-ghost use Rattle.psos_journal.specs.Views.{AreNamed};
+ghost use Rattle.std.specs.Prelude.{◌≡◌, ℕ, [], slice_get, Some, None};
+ghost use Rattle.psos_journal.specs.Views.{AreNamed, Side, new_side};
 
-use crate::last::last_of;
 use psos_journal::{Ground, Journal, Member, Names, StopCause};
 use std::alloc::Global;
 use std::marker::Brand;
@@ -34,10 +33,24 @@ fn stamped<T: Names>(alloc: Global, ground: Ground<u8>) -> Option<Answers>
     let Ok((mut journal, mut members, _tally)) = Journal::<T, u8>::start(alloc, ground) else {
         return None;
     };
-    let mut member = last_of(&mut members)?;
+    asked(alloc, &mut journal, members.as_mut_slice())
+}
+
+// What the calls on the one member answer. Journal and member are lent, so that an early end lets go of nothing.
+fn asked<T: Names>(
+    alloc: Global,
+    journal: &mut Journal<T, u8>,
+    members: &mut [Member<T, u8>],
+) -> Option<Answers>
+    requires journal { (journal.old.left ≡ None) × (journal.old.members ≡ 1) × (journal.old.entries ≡ []) × (journal.old.room ≡ 4) }
+    requires members { (k : ℕ) (m : Side ℕ) → slice_get members.old k ≡ Some m → m ≡ new_side k }
+{
+    let [member] = members else {
+        return None;
+    };
     let has_receipt = member.receipt().is_some();
-    let stamp = entered(alloc, &mut journal, &mut member)?;
-    Some(stopped(has_receipt, stamp, &mut journal, &mut member))
+    let stamp = entered(alloc, journal, member)?;
+    Some(stopped(has_receipt, stamp, journal, member))
 }
 
 // One entry is entered into the member that it names.
