@@ -30,6 +30,8 @@ const STORE_CALLS: u64 = 19;
 enum Way {
     // Serially, over eight frames.
     Serial,
+    // Serially, over as many frames as there can be.
+    SerialInAll,
     // In turns, over eight frames.
     Turns,
     // In turns, over as many frames as there can be.
@@ -55,6 +57,7 @@ fn run(
     let store = MemStore::new(alloc, fails)?;
     let outcome = match way {
         Way::Serial => serial_call(alloc, 8, input, output, store),
+        Way::SerialInAll => serial_call(alloc, 256, input, output, store),
         Way::Turns => turns_call(alloc, 8, 5, input, output, store),
         Way::TurnsInAll => turns_call(alloc, 256, 5, input, output, store),
     };
@@ -109,6 +112,7 @@ fn runs(alloc: Global, pages: &[u8]) -> Result<Vec<u8>, AllocError> {
     'calls: for call in 1..STORE_CALLS + 1 {
         store_fails(alloc, &mut out, Way::Serial, pages, call)?;
     }
+    store_fails(alloc, &mut out, Way::SerialInAll, pages, 1)?;
     Ok(out)
 }
 
