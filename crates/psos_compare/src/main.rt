@@ -3,11 +3,13 @@
 //! Scripts stand on standard input, each behind a line `== NAME`. For each, this line is printed, the transcript that
 //! the plain program gives, or the number of its lines where they are many, and whether the core gives the same.
 //! Behind them it prints what the reader says of scripts at the limits of the language, lines and transcripts of
-//! entries that no script has to give, and where the capabilities of a run come from.
+//! entries that no script has to give, where the capabilities of a run come from, and the counts of `load` on a made
+//! script, as the plain program gives them.
 #![tactic(auto)]
 
 mod limits;
 mod lines;
+mod made;
 mod origins;
 mod parts;
 mod runs;
@@ -15,12 +17,13 @@ mod transcripts;
 
 use limits::put_limits;
 use lines::put_lines;
+use made::put_load;
 use origins::put_origins;
 use parts::next_part;
 use psos_io::{StdSink, StdSource, put_all, read_all};
 use psos_script::read_script;
 use psos_store::MemStore;
-use runs::{core_text, flat_text};
+use runs::{core_text, flat_text, put_same};
 use std::alloc::{AllocError, Global};
 use std::process::ExitCode;
 use transcripts::put_transcripts;
@@ -53,11 +56,7 @@ fn put_both(alloc: Global, out: &mut Vec<u8>, text: &[u8]) -> Result<(), AllocEr
     }
     let store = MemStore::new(alloc, Vec::new(alloc))?;
     let core = core_text(alloc, script, store)?;
-    if core == flat {
-        return out.extend_from_slice(b"the levels say the same\n");
-    }
-    out.extend_from_slice(b"THE LEVELS SAY\n")?;
-    out.extend_from_slice(&core)
+    put_same(out, &flat, &core)
 }
 
 // What both say of each script.
@@ -83,6 +82,7 @@ fn all(alloc: Global, bytes: &[u8]) -> Result<Vec<u8>, AllocError> {
     put_lines(alloc, &mut out)?;
     put_transcripts(alloc, &mut out)?;
     put_origins(alloc, &mut out)?;
+    put_load(alloc, &mut out)?;
     Ok(out)
 }
 

@@ -1,2 +1,4 @@
 pub mod FirstUser
+pub mod RunSoFar
 pub mod SerialRun
+pub mod OrderRun

@@ -1,2 +1,4 @@
+pub mod Lines
 pub mod Serial
+pub mod Fronts
 pub mod Running

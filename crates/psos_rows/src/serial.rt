@@ -1,11 +1,11 @@
 // Whole runs of the plain program.
-ghost use Rattle.std.specs.Prelude.{◌≡◌, ℕ, ◌<◌, false, IfNone, IfSome, IfOk};
+ghost use Rattle.std.specs.Prelude.{◌≡◌, ℕ, false, IfNone, IfSome, IfOk};
 ghost use Rattle.psos_calls.specs.Language.Script.{IsWellFormed};
 ghost use Rattle.psos_model.specs.Run.{has_left};
 ghost use Rattle.psos_model.specs.Run.SerialOrder.{IsFirst};
 ghost use Rattle.psos_rows.specs.Serial.{IsSerialRun};
-ghost use Rattle.psos_rows.specs.Running.{IsRunning, IsNext};
 
+use crate::line::next_line;
 use psos_calls::{Line, Script};
 use psos_model::Flat;
 use std::alloc::{AllocError, Global};
@@ -23,30 +23,6 @@ fn first_left(script: &Script, flat: &Flat) -> Option<u8>
     None
 }
 
-// The answer to a user's next request, with this stamp.
-fn line(
-    alloc: Global,
-    script: &Script,
-    flat: &mut Flat,
-    user: u8,
-    stamp: u32,
-) -> Result<Line, AllocError>
-    requires script { IsWellFormed script.now }
-    requires running { IsRunning script.now flat.old stamp }
-    requires first { IsFirst script.now flat.old.users user }
-    requires few { stamp < 32768 }
-    ensures { IfOk result (λ l. IsNext script.now flat.old user stamp flat.new l) }
-{
-    let answer = flat.step(alloc, script, user)?;
-    Ok(Line {
-        user,
-        n: answer.n,
-        m: answer.m,
-        stamp,
-        reply: answer.reply,
-    })
-}
-
 /// All requests of a script, answered by the plain program from boot (docs/promises.md, "Runs"). Always the first user
 /// of the script that has a request left is next: phase by phase, in a phase user by user, and the lines of called
 /// bodies one after another. The lines are in the order of the answers, stamped from 0. `Err` only where memory runs
@@ -61,7 +37,7 @@ pub fn serial_lines(alloc: Global, script: &Script) -> Result<Vec<Line>, AllocEr
         let Some(user) = first_left(script, &flat) else {
             return Ok(lines);
         };
-        lines.push(line(alloc, script, &mut flat, user, stamp)?)?;
+        lines.push(next_line(alloc, script, &mut flat, user, stamp)?)?;
     }
     Ok(lines)
 }
