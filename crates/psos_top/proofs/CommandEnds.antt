@@ -1,6 +1,6 @@
 -- How a command ends, by what it came to.
 use Rattle.std.proofs.Common.{◌≡◌, ℕ, ◌<◌, ◌≤◌, List, [], ◌++◌, length, Option, Some, None, ◌⊎◌, inl, inr, sym, ap, ◌∙◌, subst, arith, append-nil}
-use Rattle.std.specs.Prelude.{IfSome, IsSomeAnd, option_map}
+use Rattle.std.specs.Prelude.{IfSome, IsSomeAnd}
 use Rattle.std.specs.Io.KnownBytes.{Consumes, IsAtEnd, Keeps}
 use Rattle.psos_io.specs.Causes.{Rose}
 use Rattle.psos_calls.specs.declared.entry.Entry.{Entry}
@@ -10,11 +10,9 @@ use Rattle.psos_model.specs.Run.{IsComplete}
 use Rattle.psos_model.specs.Replay.{System, order_of}
 use Rattle.psos_script.proofs.Outcome.{one_script}
 use Rattle.psos_script.specs.declared.fault.ScriptFault.{ScriptFault}
-use Rattle.psos_core.specs.declared.levels.Levels.{Levels}
-use Rattle.psos_core.specs.System.{system_of}
 use Rattle.psos_top.specs.declared.command.Command.{Command}
 use Rattle.psos_top.specs.declared.outcome.Outcome.{Outcome}
-use Rattle.psos_top.specs.Outcome.{Stream, Given, Holds, HoldsNone, SpellsNone, WasRead, Writes, IsFaulty, IsRefused, IsRunStatus, HasNoRun, IsNoRun, IsBroken, IsUnfinished, RunEnds, RanToEnd, Ends, StoreEnds, given_by, fault_line, read_fault_text}
+use Rattle.psos_top.specs.Outcome.{Stream, Given, Holds, HoldsNone, SpellsNone, WasRead, Writes, IsFaulty, IsRefused, IsRunStatus, HasNoRun, IsNoRun, RunEnds, RanToEnd, Ends, StoreEnds, given_by, fault_line, read_fault_text}
 use Rattle.psos_top.specs.Orders.{IsRunBy}
 
 -- ---- what an input holds
@@ -35,7 +33,7 @@ same_script None s t held spelled = absurd held
 same_script (Some bytes) s t held spelled = one_script bytes t s spelled held
 
 -- the order of a whole run is complete
-order_complete : (command : Command) (s : Script) (entries : List Entry) (left : Option System) → IsSomeAnd left (IsRunBy command s entries) → IsComplete s (order_of entries)
+pub order_complete : (command : Command) (s : Script) (entries : List Entry) (left : Option System) → IsSomeAnd left (IsRunBy command s entries) → IsComplete s (order_of entries)
 order_complete command s entries None run = absurd run
 order_complete command s entries (Some y) run = run.complete
 
@@ -102,7 +100,7 @@ memory_ends command input out given is keeps none input_later out_later = record
   write_fault = λ h. absurd (omega (arith, is, h));
   cut = λ h. absurd (omega (arith, is, h));
   stopped = λ h. absurd (omega (arith, is, h));
-  memory = λ h. inl keeps;
+  memory = λ h. inl (record { text = keeps; none = none });
   no_script = record { refuses = λ held calm. inr is };
   complete = record { runs = λ s held calm quiet. inr (inr is) };
   none = λ h. none;
@@ -138,8 +136,8 @@ run_ends command input out given s read run input_later = record {
   read_fault_line = λ h. absurd (no_other given.status 3 run.which (omega arith) (omega arith) (omega arith) (omega arith) h);
   write_fault = run.cause;
   cut = λ h. (s, record { read = read; run = run.run (inr h); text = run.cut h });
-  stopped = λ h. record { script = s; read = read; cause = run.store h; text = run.stopped h };
-  memory = λ h. front (run.memory h);
+  stopped = λ h. record { script = s; read = read; cause = run.store h; so_far = run.so_far; none = run.none h; text = run.stopped h };
+  memory = λ h. inr (s, record { read = read; so_far = run.so_far; text = run.memory h });
   no_script = record { refuses = λ none calm. absurd (not_none input.before s none read.spelled) };
   complete = record { runs = λ t held calm quiet. whole t held quiet run.which };
   none = λ h. missing h;
@@ -147,10 +145,6 @@ run_ends command input out given s read run input_later = record {
   out_later = run.later;
 }
   where
-    front : Keeps out.before out.now ⊎ IsBroken command out.before out.now s → IsUnfinished command input.before input.now out.before out.now
-    front (inl nothing) = inl nothing
-    front (inr broken) = inr (s, read, broken)
-
     -- the order is complete for each script that the bytes spell, since that is one only
     completed : (t : Script) → Holds t input.before → given.status ≡ 0 → IsComplete t (order_of given.entries)
     completed t held zero =
@@ -166,8 +160,7 @@ run_ends command input out given s read run input_later = record {
     missing : HasNoRun given.status → IsNoRun given.entries given.left
     missing (inl one) = absurd (no_other given.status 1 run.which (omega arith) (omega arith) (omega arith) (omega arith) one)
     missing (inr (inl two)) = absurd (no_other given.status 2 run.which (omega arith) (omega arith) (omega arith) (omega arith) two)
-    missing (inr (inr (inl three))) = absurd (no_other given.status 3 run.which (omega arith) (omega arith) (omega arith) (omega arith) three)
-    missing (inr (inr (inr stopped))) = run.none stopped
+    missing (inr (inr three)) = absurd (no_other given.status 3 run.which (omega arith) (omega arith) (omega arith) (omega arith) three)
 
 -- ---- by what was read
 
@@ -175,10 +168,6 @@ pub no_script_ends : (command : Command) (input out : Stream) (given : Given) (f
     → IsNoRun given.entries given.left → input.faults_before ≤ input.faults_now → out.faults_before ≤ out.faults_now → Ends command input out given
 no_script_ends command input out given fault is faulty text none input_later out_later =
     refused_ends command input out given is (record { line = fault.line; cause = fault.cause; faulty = faulty; text = text }) none input_later out_later
-
--- without a script, and without levels
-pub no_run_given : {B : Type 0} (entries : List Entry) (levels : Option (Levels B)) → IsNoRun entries levels → IsNoRun entries (option_map (λ (l : Levels B). system_of l) levels)
-no_run_given {B} entries levels none = record { entries-none = none.entries-none; left-none = ap (λ o. option_map (λ (l : Levels B). system_of l) o) none.left-none }
 
 -- ---- by how many calls of the store had failed before
 

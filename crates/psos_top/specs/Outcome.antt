@@ -6,13 +6,13 @@ use Rattle.psos_io.specs.Causes.{Rose}
 use Rattle.psos_calls.specs.declared.entry.Entry.{Entry}
 use Rattle.psos_calls.specs.Language.Script.{Script, IsWellFormed}
 use Rattle.psos_model.specs.Text.Spelling.{IsScript}
-use Rattle.psos_model.specs.Run.{IsComplete}
-use Rattle.psos_model.specs.Replay.{System, order_of}
+use Rattle.psos_model.specs.Flat.Boot.{boot}
+use Rattle.psos_model.specs.Run.{IsLegalFrom, IsComplete, run}
+use Rattle.psos_model.specs.Replay.{System, replay, order_of, AreFaithful}
+use Rattle.psos_model.specs.Replay.StandsFor.{StandsFor}
 use Rattle.psos_model.specs.Text.Transcript.{transcript}
-use Rattle.psos_model.specs.Text.Output.{output, printed}
-use Rattle.psos_print.specs.declared.fault.PrintFault.{PrintFault}
-use Rattle.psos_print.specs.declared.fault.PrintFault.TheVariants as faults
-use Rattle.psos_print.specs.Positions.{entries_text}
+use Rattle.psos_model.specs.Text.Output.{output}
+use Rattle.psos_laws.specs.Laws.{HoldsAlong}
 use Rattle.psos_script.specs.declared.cause.Cause.{Cause}
 use Rattle.psos_script.specs.Fault.{fault_of}
 use Rattle.psos_script.specs.CauseText.{cause_text}
@@ -51,6 +51,20 @@ given_by {B} start outcome = record {
   store_before = start;
   store_now = outcome.store_faults;
 }
+
+-- ---- the run so far
+
+-- levels and users' own parts as an order leaves them: those of its replay, which stand for the flat state of its run
+pub record AreLeft (s : Script) (order : List ℕ) (left : System) : Type 0 where
+  pub replayed : left ≡ replay s order
+  pub stands : StandsFor left (run s order)
+
+-- the requests that closed come in a legal order, their entries are faithful, the laws hold at every point of it, and the levels, where they are given, are as it leaves them
+pub record IsSoFar (s : Script) (entries : List Entry) (left : Option System) : Type 0 where
+  pub legal : IsLegalFrom s (boot s) (order_of entries)
+  pub faithful : AreFaithful s entries
+  pub lawful : HoldsAlong s (boot s) (order_of entries)
+  pub stands : IfSome left (AreLeft s (order_of entries))
 
 -- ---- the lines in place of a run
 
@@ -123,28 +137,25 @@ pub record IsNoRun {X : Type 0} (entries : List Entry) (left : Option X) : Type 
   pub entries-none : entries ≡ []
   pub left-none : left ≡ None
 
--- a whole run was made, and a front of its transcript was written
-pub record IsBroken (command : Command) (before now : Option (List ℕ)) (s : Script) : Type 0 where
-  pub entries : List Entry
-  pub left : System
-  pub run : IsRunBy command s entries left
-  pub text : AppendsFront before now (transcript s (order_of entries))
+-- status 6 before a run was opened: nothing was written, and no run is given
+pub record IsUnopened (out : Stream) (given : Given) : Type 0 where
+  pub text : Keeps out.before out.now
+  pub none : IsNoRun given.entries given.left
 
--- status 6: nothing was written, or the script was read, a whole run was made, and a front of its transcript was written
-abbrev pub IsUnfinished : Command → Option (List ℕ) → Option (List ℕ) → Option (List ℕ) → Option (List ℕ) → Type 0
-IsUnfinished command input_before input_now before now = Keeps before now ⊎ ((s : Script) × WasRead input_before input_now s × IsBroken command before now s)
+-- status 6 of a run: the script was read, and a front of the transcript of the order so far was written
+pub record IsUnfinished (input out : Stream) (given : Given) (s : Script) : Type 0 where
+  pub read : WasRead input.before input.now s
+  pub so_far : IsSoFar s given.entries given.left
+  pub text : AppendsFront out.before out.now (transcript s (order_of given.entries))
 
--- what is written of a run after a fault: a front of the transcript for want of memory, and else a front of the whole
-abbrev pub LeavesFront : Option (List ℕ) → Option (List ℕ) → Script → List Entry → PrintFault → Type 0
-LeavesFront before now s entries (faults.Memory e) = AppendsFront before now (entries_text s entries)
-LeavesFront before now s entries faults.Write = AppendsFront before now (printed s entries)
-
--- status 5: the script was read, calls of the store failed, and the line of it was written, or a front of it and a write failed
+-- status 5: the script was read, calls of the store failed, and the transcript of the order so far and the line of it were written, or a front of them and a write failed
 pub record IsStopped (input out : Stream) (given : Given) : Type 0 where
   pub script : Script
   pub read : WasRead input.before input.now script
   pub cause : Rose given.store_before given.store_now
-  pub text : Writes out stopped_text
+  pub so_far : IsSoFar script given.entries given.left
+  pub none : given.left ≡ None
+  pub text : Writes out (transcript script (order_of given.entries) ++ stopped_text)
 
 -- how a run of a script ends: printed, cut, stopped for the store, or out of memory
 pub record RunEnds (command : Command) (out : Stream) (given : Given) (s : Script) : Type 0 where
@@ -153,10 +164,11 @@ pub record RunEnds (command : Command) (out : Stream) (given : Given) (s : Scrip
   pub done : given.status ≡ 0 → Appends out.before out.now (output s (order_of given.entries))
   pub cut : given.status ≡ 4 → AppendsFront out.before out.now (output s (order_of given.entries))
   pub cause : given.status ≡ 4 → Rose out.faults_before out.faults_now
+  pub so_far : IsSoFar s given.entries given.left
   pub store : given.status ≡ 5 → Rose given.store_before given.store_now
-  pub stopped : given.status ≡ 5 → Writes out stopped_text
-  pub none : (given.status ≡ 5) ⊎ (given.status ≡ 6) → IsNoRun given.entries given.left
-  pub memory : given.status ≡ 6 → Keeps out.before out.now ⊎ IsBroken command out.before out.now s
+  pub none : given.status ≡ 5 → given.left ≡ None
+  pub stopped : given.status ≡ 5 → Writes out (transcript s (order_of given.entries) ++ stopped_text)
+  pub memory : given.status ≡ 6 → AppendsFront out.before out.now (transcript s (order_of given.entries))
   pub later : out.faults_before ≤ out.faults_now
 
 -- exactly status 2: bytes that spell no script end so, unless a read failed or memory was wanting
@@ -174,11 +186,12 @@ pub record RunsScripts (input out : Stream) (given : Given) : Type 0 where
 
 -- ---- the store
 
--- the store is handed back only under 5 and 6, always under 5, and under 6 always where something was written
-pub record HandsStoreBack {B : Type 0} (before now : Option (List ℕ)) (status : ℕ) (store : Option B) : Type 0 where
+-- the store is handed back only under 5 and 6, only where no levels are given, and always under 5; under 6 with neither no run was opened
+pub record HandsStoreBack {X B : Type 0} (before now : Option (List ℕ)) (status : ℕ) (entries : List Entry) (levels : Option X) (store : Option B) : Type 0 where
   pub only : IfSome store (λ b. (status ≡ 5) ⊎ (status ≡ 6))
+  pub apart : IfSome store (λ b. levels ≡ None)
   pub stopped : status ≡ 5 → store ≡ None → ⊥
-  pub written : status ≡ 6 → store ≡ None → Keeps before now
+  pub unopened : status ≡ 6 → store ≡ None → levels ≡ None → (entries ≡ []) × Keeps before now
 
 -- the count of faults at the end: of the store within the levels, else of the one that is handed back, else as it was at the start
 abbrev pub count_at_end : Option ℕ → Option ℕ → ℕ → ℕ
@@ -188,7 +201,7 @@ count_at_end None None start = start
 
 -- where the store is at the end, and how many of its calls had failed
 pub record StoreIsLeft {B : Type 0} (faults : B → ℕ) (start : ℕ) (out : Stream) (outcome : Outcome B) : Type 0 where
-  pub back : HandsStoreBack out.before out.now outcome.status outcome.store
+  pub back : HandsStoreBack out.before out.now outcome.status outcome.entries outcome.levels outcome.store
   pub count : outcome.store_faults ≡ count_at_end (option_map (λ (l : Levels B). faults l.pages.store) outcome.levels) (option_map faults outcome.store) start
   pub later : start ≤ outcome.store_faults
 
@@ -205,7 +218,7 @@ IsRunStatus status = (status ≡ 0) ⊎ (status ≡ 2) ⊎ (status ≡ 3) ⊎ (s
 
 -- the statuses without a run
 abbrev pub HasNoRun : ℕ → Type 0
-HasNoRun status = (status ≡ 1) ⊎ (status ≡ 2) ⊎ (status ≡ 3) ⊎ (status ≡ 5) ⊎ (status ≡ 6)
+HasNoRun status = (status ≡ 1) ⊎ (status ≡ 2) ⊎ (status ≡ 3)
 
 -- ---- a command, from the bytes that go in to those that come out
 
@@ -223,14 +236,14 @@ pub record Ends (command : Command) (input out : Stream) (given : Given) : Type 
   -- at 4, the output failed
   pub write_fault : given.status ≡ 4 → Rose out.faults_before out.faults_now
   pub cut : given.status ≡ 4 → (s : Script) × IsCut command input.before input.now out.before out.now given.entries given.left s
-  -- at 5, the store failed, and the line of it was written
+  -- at 5, the store failed, and the transcript of the order so far and the line of it were written
   pub stopped : given.status ≡ 5 → IsStopped input out given
-  -- at 6, a front of the transcript was written, or nothing
-  pub memory : given.status ≡ 6 → IsUnfinished command input.before input.now out.before out.now
+  -- at 6, a front of the transcript of the order so far was written, or nothing and no run was opened
+  pub memory : given.status ≡ 6 → IsUnopened out given ⊎ ((s : Script) × IsUnfinished input out given s)
   -- unless memory was wanting or a count rose, bytes that are no script end it with 2, and a script with 0
   pub no_script : RefusesNonScripts input.before input.faults_before input.faults_now given.status
   pub complete : RunsScripts input out given
-  -- at 2, 3, 5 and 6 no run is given
+  -- at 2 and 3 no run is given
   pub none : HasNoRun given.status → IsNoRun given.entries given.left
   pub input_later : input.faults_before ≤ input.faults_now
   pub out_later : out.faults_before ≤ out.faults_now

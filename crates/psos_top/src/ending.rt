@@ -1,25 +1,23 @@
 // The ends of a command.
-ghost use Rattle.std.specs.Prelude.{◌≡◌, ◌≤◌, ◌<◌, ◌^◌, None, Some, IfOk, IfErr, IfSome, IsSome, OnOk, ℕ};
+ghost use Rattle.std.specs.Prelude.{◌≡◌, ◌≤◌, ◌<◌, ◌^◌, ◌++◌, None, Some, IfOk, IfErr, OnOk, ℕ};
 ghost use Rattle.std.specs.Io.KnownBytes.{Appends};
-ghost use Rattle.psos_model.specs.Text.Output.{calls_of, printed};
+ghost use Rattle.psos_model.specs.Text.Output.{calls_of};
 ghost use Rattle.psos_print.specs.Pieces.{HasReason};
-ghost use Rattle.psos_core.specs.System.{system_of};
-ghost use Rattle.psos_top.specs.Orders.{IsRunBy};
-ghost use Rattle.psos_top.specs.declared.command.Command.{Command};
-ghost use Rattle.psos_top.specs.Outcome.{fault_line, stream, Stream, given_by, Writes, IsNoRun, LeavesFront, RunEnds, Ends, StoreIsLeft, StoreEnds};
-ghost use Rattle.psos_top.specs.Runs.{HasRead, IsLeftBy, status_of_stop, TellsStop};
+ghost use Rattle.psos_print.specs.Positions.{entries_text};
+ghost use Rattle.psos_top.specs.Outcome.{fault_line, stream, Stream, given_by, Writes, IsNoRun, RunEnds, Ends, StoreIsLeft, StoreEnds};
+ghost use Rattle.psos_top.specs.Runs.{HasRead, IsLeftBy, IsStatusOf, LeavesFront, HasPrintedRun};
 
 use crate::Command;
 use crate::fault_line::fault_line;
 use crate::open_fault::OpenFault;
 use crate::outcome::Outcome;
 use psos_calls::{Entry, Script};
-use psos_core::{Levels, Parts};
+use psos_core::Parts;
 use psos_io::{Sink, Store, put_all};
 use psos_journal::{Entries, StopCause};
 use psos_print::{PrintFault, done_line, put_transcript};
 use psos_script::ScriptFault;
-use std::alloc::{AllocError, Global};
+use std::alloc::Global;
 
 /// An end without a run, where so many calls of the store had failed.
 pub fn no_run<B: Store>(alloc: Global, status: u8, store_faults: u64) -> Outcome<B>
@@ -34,24 +32,6 @@ pub fn no_run<B: Store>(alloc: Global, status: u8, store_faults: u64) -> Outcome
         entries: Entries::empty(alloc),
         levels: None,
         store: None,
-        store_faults,
-    }
-}
-
-/// The same of a run that was opened. The store is handed back.
-pub fn give_back<B: Store>(alloc: Global, status: u8, store: B) -> Outcome<B>
-    ensures status { result.status ≡ status }
-    ensures none { IsNoRun result.entries result.levels }
-    ensures levels { result.levels ≡ None }
-    ensures store { result.store ≡ Some store }
-    ensures store_faults { result.store_faults ≡ B.faults store }
-{
-    let store_faults = store.faults();
-    Outcome {
-        status,
-        entries: Entries::empty(alloc),
-        levels: None,
-        store: Some(store),
         store_faults,
     }
 }
@@ -94,87 +74,75 @@ fn refuse<K: Sink, B: Store>(
     stop(alloc, output, 2, &fault_line(fault), store_faults)
 }
 
-/// A run that was stopped: where the store failed this text, and else nothing. The store is handed back.
-pub(crate) fn stopped<K: Sink, B: Store>(
-    alloc: Global,
-    cause: Option<StopCause>,
-    text: &[u8],
-    store: B,
-    output: &mut K,
-) -> Outcome<B>
-    ensures status { result.status ≡ status_of_stop cause }
-    ensures none { IsNoRun result.entries result.levels }
-    ensures told { TellsStop (stream K.took K.faults output.old output.new) text.now cause }
-    ensures later { K.faults output.old ≤ K.faults output.new }
-    ensures levels { result.levels ≡ None }
-    ensures store { result.store ≡ Some store }
-    ensures store_faults { result.store_faults ≡ B.faults store }
-{
-    match cause {
-        Some(StopCause::Store) => {
-            let _ = put_all(output, text);
-            give_back(alloc, 5, store)
-        }
-        Some(StopCause::Memory) => give_back(alloc, 6, store),
-        None => give_back(alloc, 6, store),
-    }
-}
-
-// Writes the transcript, and then the last line.
-fn put_run<K: Sink>(
+// Writes the transcript of entries, and then a line.
+fn put_behind<K: Sink>(
     alloc: Global,
     script: &Script,
     entries: &Entries<Entry>,
+    line: &[u8],
     output: &mut K,
 ) -> Result<(), PrintFault>
-    requires { calls_of entries.now < 2 ^ 64 }
-    ensures whole { OnOk result (Appends (K.took output.old) (K.took output.new) (printed script.now entries.now)) }
-    ensures front { IfErr result (LeavesFront (K.took output.old) (K.took output.new) script.now entries.now) }
+    ensures whole { OnOk result (Appends (K.took output.old) (K.took output.new) (entries_text script.now entries.now ++ line.now)) }
+    ensures front { IfErr result (LeavesFront (stream K.took K.faults output.old output.new) (entries_text script.now entries.now) line.now) }
     ensures later { K.faults output.old ≤ K.faults output.new }
     ensures reason { IfErr result (HasReason (K.faults output.old) (K.faults output.new)) }
 {
     put_transcript(alloc, script, entries, output)?;
-    let Ok(line) = done_line(alloc, entries) else {
-        return Err(PrintFault::Memory(AllocError));
-    };
-    if put_all(output, &line).is_err() {
+    if put_all(output, line).is_err() {
         return Err(PrintFault::Write);
     }
     Ok(())
 }
 
-// Prints a whole run. For want of memory there is then no run, though a front of its transcript may be written, and the
-// store is handed back.
-fn finish<K: Sink, B: Store>(
+// Prints a whole run: the transcript, and then how many requests and level calls there were.
+fn print_whole<K: Sink>(
     alloc: Global,
     script: &Script,
-    entries: Entries<Entry>,
-    levels: Levels<B>,
+    entries: &Entries<Entry>,
     output: &mut K,
-) -> Outcome<B>
-    requires few { calls_of entries < 2 ^ 64 }
-    ensures ends { (command : Command) (start : ℕ) → IsRunBy command script.now entries (system_of levels) →
-        RunEnds command (stream K.took K.faults output.old output.new) (given_by start result) script.now }
-    ensures store { (start : ℕ) → start ≤ B.faults levels.pages.store →
-        StoreIsLeft B.faults start (stream K.took K.faults output.old output.new) result }
+) -> u8
+    requires { calls_of entries.now < 2 ^ 64 }
+    ensures status { IsStatusOf None result }
+    ensures printed { HasPrintedRun (stream K.took K.faults output.old output.new) script.now entries.now result }
 {
-    let status = match put_run(alloc, script, &entries, output) {
+    let Ok(line) = done_line(alloc, entries) else {
+        return 6;
+    };
+    match put_behind(alloc, script, entries, &line, output) {
         Ok(()) => 0,
         Err(PrintFault::Write) => 4,
-        Err(PrintFault::Memory(_)) => return give_back(alloc, 6, levels.pages.into_store()),
-    };
-    let store_faults = levels.pages.store_faults();
-    Outcome {
-        status,
-        entries,
-        levels: Some(levels),
-        store: None,
-        store_faults,
+        Err(PrintFault::Memory(_)) => 6,
     }
 }
 
-// Prints what a run left. The command whose run it is, and the store's count of faults before it, are named for clauses
-// alone.
+// Prints a run that was stopped: the transcript of what closed, and where the store failed the line of it.
+fn print_stopped<K: Sink>(
+    alloc: Global,
+    script: &Script,
+    entries: &Entries<Entry>,
+    cause: StopCause,
+    output: &mut K,
+) -> u8
+    ensures status { IsStatusOf (Some cause) result }
+    ensures printed { HasPrintedRun (stream K.took K.faults output.old output.new) script.now entries.now result }
+{
+    match cause {
+        StopCause::Store => {
+            match put_behind(alloc, script, entries, b"stopped store\n", output) {
+                Ok(()) => 5,
+                Err(PrintFault::Write) => 5,
+                Err(PrintFault::Memory(_)) => 6,
+            }
+        }
+        StopCause::Memory => {
+            let _ = put_transcript(alloc, script, entries, output);
+            6
+        }
+    }
+}
+
+// Prints what a run left, and gives it. The command whose run it is, and the store's count of faults before it, are named
+// for clauses alone.
 fn close<K: Sink, B: Store>(
     alloc: Global,
     command: Command,
@@ -192,15 +160,19 @@ fn close<K: Sink, B: Store>(
         entries,
         levels,
         store,
-        store_faults: _,
-        stopped: cause,
+        store_faults,
+        stopped,
     } = parts;
-    match levels {
-        Some(levels) => finish(alloc, script, entries, levels, output),
-        None => match store {
-            Some(store) => stopped(alloc, cause, b"stopped store\n", store, output),
-            None => unreachable!(),
-        },
+    let status = match stopped {
+        None => print_whole(alloc, script, &entries, output),
+        Some(cause) => print_stopped(alloc, script, &entries, cause, output),
+    };
+    Outcome {
+        status,
+        entries,
+        levels,
+        store,
+        store_faults,
     }
 }
 

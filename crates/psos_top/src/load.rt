@@ -10,7 +10,7 @@ ghost use Rattle.psos_top.specs.Loading.{IsMadeFrom, LoadEnds};
 
 use crate::Command;
 use crate::ending::no_run;
-use crate::loading::{print_run, print_stop};
+use crate::loading::{print_counts, print_stop};
 use crate::opening::boot_core;
 use crate::outcome::Outcome;
 use psos_calls::Script;
@@ -125,14 +125,18 @@ pub fn load_call<K: Sink, B: Store>(
         entries,
         levels,
         store,
-        store_faults: _,
-        stopped: cause,
+        store_faults,
+        stopped,
     } = parts;
-    match levels {
-        Some(levels) => print_run(alloc, head, entries, levels, output),
-        None => match store {
-            Some(store) => print_stop(alloc, head, cause, store, output),
-            None => unreachable!(),
-        },
+    let status = match stopped {
+        None => print_counts(alloc, &head, &entries, output),
+        Some(cause) => print_stop(&head, cause, output),
+    };
+    Outcome {
+        status,
+        entries,
+        levels,
+        store,
+        store_faults,
     }
 }

@@ -1,95 +1,74 @@
-// The ends of the command `load`.
-ghost use Rattle.std.specs.Prelude.{◌≡◌, ◌≤◌, ◌<◌, ◌^◌, ◌++◌, Some, IfOk, ℕ};
+// What the command `load` prints.
+ghost use Rattle.std.specs.Prelude.{◌≡◌, ◌≤◌, ◌<◌, ◌^◌, ◌++◌, List, None, Some, IfOk, OnOk, OnErr, ℕ};
+ghost use Rattle.std.specs.Io.KnownBytes.{Appends};
+ghost use Rattle.psos_io.specs.Bytes.{AppendsFront};
 ghost use Rattle.psos_io.specs.Causes.{Rose};
-ghost use Rattle.psos_journal.specs.declared.stop_cause.StopCause.TheVariants as stops;
-ghost use Rattle.psos_calls.specs.Language.Script.{Script};
 ghost use Rattle.psos_model.specs.Text.Output.{calls_of};
-ghost use Rattle.psos_core.specs.System.{system_of};
-ghost use Rattle.psos_top.specs.declared.command.Command.{Command};
-ghost use Rattle.psos_top.specs.Orders.{IsRunBy};
-ghost use Rattle.psos_top.specs.Outcome.{stream, given_by, stopped_text, StoreIsLeft};
-ghost use Rattle.psos_top.specs.Loading.{counts_text, IsMadeFrom, LoadEnds};
+ghost use Rattle.psos_top.specs.Outcome.{stream};
+ghost use Rattle.psos_top.specs.Runs.{IsStatusOf, HasPrinted};
+ghost use Rattle.psos_top.specs.Loading.{counts_text};
 
-use crate::ending::{give_back, stopped};
-use crate::outcome::Outcome;
 use psos_calls::Entry;
-use psos_core::Levels;
-use psos_io::{Sink, Store, put_all};
+use psos_io::{Failed, Sink, put_all};
 use psos_journal::{Entries, StopCause};
 use psos_print::{done_line, forms_line};
 use std::alloc::{AllocError, Global};
 
-// The three lines, of which the first is given.
-#[tactic(auto, using(std::proofs::lemmas::List::append_assoc))]
-fn all_lines(alloc: Global, head: Vec<u8>, entries: &Entries<Entry>) -> Result<Vec<u8>, AllocError>
+// The two lines behind the first.
+fn counts(alloc: Global, entries: &Entries<Entry>) -> Result<Vec<u8>, AllocError>
     requires { calls_of entries.now < 2 ^ 64 }
-    ensures { IfOk result (λ text. text.items ≡ head.items ++ counts_text entries.now) }
+    ensures { IfOk result (λ text. text.items ≡ counts_text entries.now) }
 {
-    let mut text = head;
-    let forms = forms_line(alloc, entries)?;
+    let mut text = forms_line(alloc, entries)?;
     let done = done_line(alloc, entries)?;
-    text.extend_from_slice(&forms)?;
     text.extend_from_slice(&done)?;
     Ok(text)
 }
 
-// The first line, and the line of a store that failed.
-fn stop_lines(head: Vec<u8>) -> Result<Vec<u8>, AllocError>
-    ensures { IfOk result (λ text. text.items ≡ head.items ++ stopped_text) }
+// Writes the first line, and then others.
+fn put_behind<K: Sink>(output: &mut K, head: &[u8], lines: &[u8]) -> Result<(), Failed>
+    ensures whole { OnOk result (Appends (K.took output.old) (K.took output.new) (head.now ++ lines.now)) }
+    ensures front { AppendsFront (K.took output.old) (K.took output.new) (head.now ++ lines.now) }
+    ensures later { K.faults output.old ≤ K.faults output.new }
+    ensures failed { OnErr result (Rose (K.faults output.old) (K.faults output.new)) }
 {
-    let mut text = head;
-    text.extend_from_slice(b"stopped store\n")?;
-    Ok(text)
+    put_all(output, head)?;
+    put_all(output, lines)
 }
 
-/// Prints a whole run, behind its first line. For want of memory nothing is written, there is then no run, and the store
-/// is handed back.
-pub(crate) fn print_run<K: Sink, B: Store>(
+/// Prints a whole run: its first line, and then the counts. For want of memory nothing is written.
+pub(crate) fn print_counts<K: Sink>(
     alloc: Global,
-    head: Vec<u8>,
-    entries: Entries<Entry>,
-    levels: Levels<B>,
+    head: &[u8],
+    entries: &Entries<Entry>,
     output: &mut K,
-) -> Outcome<B>
-    requires few { calls_of entries < 2 ^ 64 }
-    ensures ends { (users lines seed start : ℕ) (s : Script) → IsMadeFrom users lines seed head.items s → IsRunBy (Command.Turns seed) s entries (system_of levels) →
-        LoadEnds users lines seed (stream K.took K.faults output.old output.new) (given_by start result) }
-    ensures store { (start : ℕ) → start ≤ B.faults levels.pages.store →
-        StoreIsLeft B.faults start (stream K.took K.faults output.old output.new) result }
+) -> u8
+    requires { calls_of entries.now < 2 ^ 64 }
+    ensures status { IsStatusOf None result }
+    ensures printed { HasPrinted (stream K.took K.faults output.old output.new) head.now (counts_text entries.now) result }
 {
-    let Ok(text) = all_lines(alloc, head, &entries) else {
-        return give_back(alloc, 6, levels.pages.into_store());
+    let Ok(text) = counts(alloc, entries) else {
+        return 6;
     };
-    let status = match put_all(output, &text) {
+    match put_behind(output, head, &text) {
         Ok(()) => 0,
         Err(_) => 4,
-    };
-    let store_faults = levels.pages.store_faults();
-    Outcome {
-        status,
-        entries,
-        levels: Some(levels),
-        store: None,
-        store_faults,
     }
 }
 
-/// Prints the end of a run that was stopped: where the store failed the first line and the line of it, and else nothing.
-/// The store is handed back.
-pub(crate) fn print_stop<K: Sink, B: Store>(
-    alloc: Global,
-    head: Vec<u8>,
-    cause: Option<StopCause>,
-    store: B,
-    output: &mut K,
-) -> Outcome<B>
-    ensures ends { (users lines seed start : ℕ) (s : Script) → IsMadeFrom users lines seed head.items s → (cause ≡ Some stops.Store → Rose start (B.faults store)) →
-        LoadEnds users lines seed (stream K.took K.faults output.old output.new) (given_by start result) }
-    ensures store { (start : ℕ) → start ≤ B.faults store →
-        StoreIsLeft B.faults start (stream K.took K.faults output.old output.new) result }
+/// Prints the end of a run that was stopped: the first line, and where the store failed the line of it.
+pub(crate) fn print_stop<K: Sink>(head: &[u8], cause: StopCause, output: &mut K) -> u8
+    ensures status { IsStatusOf (Some cause) result }
+    ensures printed { (line : List ℕ) → HasPrinted (stream K.took K.faults output.old output.new) head.now line result }
 {
-    let Ok(text) = stop_lines(head) else {
-        return give_back(alloc, 6, store);
-    };
-    stopped(alloc, cause, &text, store, output)
+    match cause {
+        StopCause::Store => {
+            let _ = put_behind(output, head, b"stopped store\n");
+            5
+        }
+        StopCause::Memory => {
+            let _ = put_all(output, head);
+            6
+        }
+    }
 }

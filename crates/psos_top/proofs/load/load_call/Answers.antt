@@ -1,16 +1,14 @@
-use Rattle.std.proofs.Common.{◌≡◌, arith}
-use Rattle.psos_top.proofs.RunPrinting.{there}
-use Rattle.psos_top.proofs.LoadEndings.{held}
+use Rattle.std.proofs.Common.{Some, None}
+use Rattle.psos_top.proofs.LoadEndings.{load_closed}
+use Rattle.psos_top.proofs.RunPrinting.{stopped_so}
+use Rattle.psos_top.specs.Loading.{counts_text}
 use Rattle.psos_top.proofs.load.load_call.Goals as goal
+use Rattle.psos_top.proofs.load.load_call.Goals.{in-None, in-Some}
 
-pub returns-in-Some-clause-store : goal.returns-in-Some-clause-store
-returns-in-Some-clause-store g c =
-    let left = c.in-Ok.ensures.left in
-    let within = there (λ l. c.in-Ok.parts.store_faults ≡ g.B.Store.faults l.pages.store) _ _ c.in-Some.is left.within in
-    c.print_run.ensures.store _ (omega (arith, within, left.later))
-
-pub returns-in-Some-store-clause-store : goal.returns-in-Some-store-clause-store
-returns-in-Some-store-clause-store g c =
-    let left = c.in-Ok.ensures.left in
-    let back = held (λ b. c.in-Ok.parts.store_faults ≡ g.B.Store.faults b) _ _ c.in-Some-store.is (left.back c.in-None.is) in
-    c.print_stop.ensures.store _ (omega (arith, back, left.later))
+pub returns-clause-ends : goal.returns-clause-ends
+returns-clause-ends g c = elim c.match-stopped.branch [
+  | in-None w ↦ load_closed g.B.Store.faults c.args.users c.args.lines c.args.seed c.in-Ok.head.items w.deref.result.now c.in-Ok._script c.in-Ok.parts _ g.K.Sink.took g.K.Sink.faults c.args.output.now _ _ _ _ c.in-Ok.ensures.made
+      c.in-Ok.ensures.left w.deref.ensures.value w.output-is w.status-is (stopped_so c.in-Ok.parts.stopped None _ w.in-None.is w.print_counts-status.ensures.status) w.print_counts-status.ensures.printed
+  | in-Some w ↦ load_closed g.B.Store.faults c.args.users c.args.lines c.args.seed c.in-Ok.head.items w.deref-in-Some.result.now c.in-Ok._script c.in-Ok.parts _ g.K.Sink.took g.K.Sink.faults c.args.output.now _ _ _ _ c.in-Ok.ensures.made
+      c.in-Ok.ensures.left w.deref-in-Some.ensures.value w.output-is w.status-is (stopped_so c.in-Ok.parts.stopped (Some w.in-Some.cause) _ w.in-Some.is w.print_stop-status.ensures.status) (w.print_stop-status.ensures.printed (counts_text c.in-Ok.parts.entries))
+]

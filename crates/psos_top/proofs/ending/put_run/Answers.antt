@@ -1,9 +1,0 @@
-use Rattle.std.proofs.Common.{◌∙◌}
-use Rattle.psos_top.proofs.RunPrinting.{if_err, leaves_front, line_begun}
-use Rattle.psos_top.proofs.ending.put_run.Goals as goal
-
-pub returns-in_err-put_transcript-clause-front : goal.returns-in_err-put_transcript-clause-front
-returns-in_err-put_transcript-clause-front g c = if_err _ c.from_residual.result (leaves_front _ _ c.args.script.now c.args.entries.now c.put_transcript.ensures.front)
-
-pub returns-then-is_err-clause-front : goal.returns-then-is_err-clause-front
-returns-then-is_err-clause-front g c = line_begun _ _ _ _ _ _ c.in_ok-put_transcript.ensures.whole c.put_all.ensures.front (c.deref.ensures.value ∙ c.in-Ok.ensures)
