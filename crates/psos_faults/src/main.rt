@@ -71,6 +71,23 @@ fn run<R: Threads + Wait + Sync>(
     End::of(alloc, script, &outcome, output.bytes())
 }
 
+// The serial run over a source and a sink, with the number of the call that fails.
+fn put_run<R: Threads + Wait + Sync>(
+    rt: &R,
+    alloc: Global,
+    out: &mut Vec<u8>,
+    name: &[u8],
+    call: u64,
+    input: &mut MemSource,
+    output: &mut MemSink,
+) -> Result<(), AllocError> {
+    output.reserve(alloc, 1000)?;
+    let none = Vec::new(alloc);
+    let end = run(rt, alloc, Way::Serial, SCRIPT, input, output, none)?;
+    put(alloc, out, name, call)?;
+    end.put(alloc, out, output.bytes())
+}
+
 // The run in which this call of the source fails. It gives one byte a call.
 fn read_fails<R: Threads + Wait + Sync>(
     rt: &R,
@@ -80,19 +97,7 @@ fn read_fails<R: Threads + Wait + Sync>(
 ) -> Result<(), AllocError> {
     let mut input = MemSource::new(SCRIPT.to_vec(alloc)?, 1, failing(alloc, call)?);
     let mut output = MemSink::new(4, Vec::new(alloc));
-    output.reserve(alloc, 1000)?;
-    let none = Vec::new(alloc);
-    let end = run(
-        rt,
-        alloc,
-        Way::Serial,
-        SCRIPT,
-        &mut input,
-        &mut output,
-        none,
-    )?;
-    put(alloc, out, b"read ", call)?;
-    end.put(alloc, out, output.bytes())
+    put_run(rt, alloc, out, b"read ", call, &mut input, &mut output)
 }
 
 // The run in which this call of the sink fails. It takes one byte a call.
@@ -104,19 +109,7 @@ fn write_fails<R: Threads + Wait + Sync>(
 ) -> Result<(), AllocError> {
     let mut input = MemSource::new(SCRIPT.to_vec(alloc)?, 4, Vec::new(alloc));
     let mut output = MemSink::new(1, failing(alloc, call)?);
-    output.reserve(alloc, 1000)?;
-    let none = Vec::new(alloc);
-    let end = run(
-        rt,
-        alloc,
-        Way::Serial,
-        SCRIPT,
-        &mut input,
-        &mut output,
-        none,
-    )?;
-    put(alloc, out, b"write ", call)?;
-    end.put(alloc, out, output.bytes())
+    put_run(rt, alloc, out, b"write ", call, &mut input, &mut output)
 }
 
 // How the run of a script ends in which this call of the store fails.
